@@ -1,0 +1,17 @@
+use Rattle.transfer.specs.Reading.{follow}
+use borrow.Author.Needs.{needs}
+use Rattle.transfer.proofs.state.State.hand.Statement.{statement}
+use Rattle.transfer.proofs.state.State.hand.Tie as tie
+
+add-t4 : tie.Need-add-t4
+add-t4 c = search needs
+
+add-t5 : tie.Need-add-t5
+add-t5 c = search needs
+
+returns : tie.Need-returns
+unfolding follow
+returns c = search needs
+
+pub hand-spec : {M : Type 1} → statement M
+hand-spec = tie.close (tie.spec add-t4 add-t5 returns)

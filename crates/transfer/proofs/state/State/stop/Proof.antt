@@ -1,0 +1,11 @@
+use borrow.Author.Needs.{needs}
+use Rattle.transfer.specs.Reading.{follow}
+use Rattle.transfer.proofs.state.State.stop.Statement.{statement}
+use Rattle.transfer.proofs.state.State.stop.Tie as tie
+
+returns : tie.Need-returns
+unfolding follow
+returns c = search needs
+
+pub stop-spec : {M : Type 1} → statement M
+stop-spec = tie.close (tie.spec returns)

@@ -1,0 +1,8 @@
+-- What one tick shows. Document 01, "Recording layout": bit 0 ATN, 1 CLK, 2 DATA, 3 SRQ; a line is 1 when pulled.
+-- "SRQ is read and changes no answer": it is no part of what the judge is shown.
+use Prim.Native.Nat.{ℕ, _/_, _%_}
+use lib.Dec.{eqb}
+use Rattle.transfer.specs.declared.lines.Lines.{Lines}
+
+abbrev pub linesOf : ℕ → Lines
+linesOf byte = record { atn = eqb (byte % 2) 1; clk = eqb (byte / 2 % 2) 1; «data» = eqb (byte / 4 % 2) 1 }

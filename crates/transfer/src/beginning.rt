@@ -1,0 +1,98 @@
+// Phases A start, B hold and C ready to send.
+ghost use mathlib.Core.Path.{_≡_};
+ghost use Rattle.transfer.specs.Reading.{phaseStep, Countable};
+use crate::limits::Limits;
+use crate::lines::Lines;
+use crate::offset::below;
+use crate::phase::Byte;
+use crate::phase::Phase;
+use crate::state::State;
+use crate::verdict::Fault;
+
+impl State {
+    // A
+    pub(crate) fn start(self, limits: Limits, lines: Lines) -> State
+        requires { ⌜ Countable self ⌝ }
+        ensures { λ r. ⌜ r ≡ phaseStep limits self Phase.Start lines ⌝ }
+    {
+        let now = self.tick;
+        if lines.clk {
+            if lines.data {
+                return self.go(Phase::FirstHold);
+            }
+            if below(limits.presence, 0, now) {
+                return self.go(Phase::Start);
+            }
+            return self.stop(Fault::NoReceiver);
+        }
+        if now == 0 {
+            return self.stop(Fault::BadStart);
+        }
+        self.stop(Fault::OutOfTurn)
+    }
+
+    // B, before any byte
+    pub(crate) fn first_hold(self, limits: Limits, lines: Lines) -> State
+        requires { ⌜ Countable self ⌝ }
+        ensures { λ r. ⌜ r ≡ phaseStep limits self Phase.FirstHold lines ⌝ }
+    {
+        if lines.clk {
+            if lines.data {
+                return self.go(Phase::FirstHold);
+            }
+            return self.stop(Fault::OutOfTurn);
+        }
+        if lines.data {
+            return self.go(Phase::ReadyToSend {
+                any: false,
+                ended: false,
+            });
+        }
+        self.stop(Fault::OutOfTurn)
+    }
+
+    // B, after a byte: entering C hands it over
+    pub(crate) fn hold(self, limits: Limits, byte: Byte, mark: bool, lines: Lines) -> State
+        requires { ⌜ Countable self ⌝ }
+        ensures { λ r. ⌜ r ≡ phaseStep limits self (Phase.Hold byte mark) lines ⌝ }
+    {
+        let now = self.tick;
+        if lines.clk {
+            if lines.data {
+                return self.go(Phase::Hold { byte, mark });
+            }
+            return self.stop(Fault::OutOfTurn);
+        }
+        if lines.data {
+            if below(limits.between_bytes, byte.take, now) {
+                return self.stop(Fault::Hurried);
+            }
+            return self.hand(
+                byte,
+                Phase::ReadyToSend {
+                    any: true,
+                    ended: mark,
+                },
+            );
+        }
+        self.stop(Fault::OutOfTurn)
+    }
+
+    // C
+    pub(crate) fn ready_to_send(self, limits: Limits, any: bool, ended: bool, lines: Lines) -> State
+        requires { ⌜ Countable self ⌝ }
+        ensures { λ r. ⌜ r ≡ phaseStep limits self (Phase.ReadyToSend any ended) lines ⌝ }
+    {
+        let now = self.tick;
+        if lines.clk {
+            return self.stop(Fault::OutOfTurn);
+        }
+        if lines.data {
+            return self.go(Phase::ReadyToSend { any, ended });
+        }
+        if ended {
+            return self.go(Phase::End { finish: now });
+        }
+        self.go(Phase::ReadyForData { any, since: now })
+    }
+}

@@ -1,0 +1,115 @@
+// Phases D ready for data, F acknowledgement and G: whether the byte to come has the end mark.
+ghost use mathlib.Core.Path.{_≡_};
+ghost use Rattle.transfer.specs.Reading.{phaseStep, Countable};
+use crate::limits::Limits;
+use crate::lines::Lines;
+use crate::offset::below;
+use crate::offset::up_to;
+use crate::phase::Phase;
+use crate::state::State;
+use crate::verdict::Fault;
+
+impl State {
+    // D
+    pub(crate) fn ready_for_data(self, limits: Limits, any: bool, since: u32, lines: Lines) -> State
+        requires { ⌜ Countable self ⌝ }
+        ensures { λ r. ⌜ r ≡ phaseStep limits self (Phase.ReadyForData any since) lines ⌝ }
+    {
+        let now = self.tick;
+        if lines.clk {
+            if below(limits.end_mark, since, now) {
+                return self.go(Phase::SetUp {
+                    mark: false,
+                    left: 7,
+                    value: 0,
+                    since: now,
+                    last: lines.data,
+                });
+            }
+            return self.stop(Fault::OutOfTurn);
+        }
+        if lines.data {
+            if below(limits.end_mark, since, now) {
+                return self.stop(Fault::OutOfTurn);
+            }
+            return self.go(Phase::Acknowledgement {
+                any,
+                ready: since,
+                since: now,
+            });
+        }
+        if below(limits.end_mark_latest, since, now) {
+            return self.go(Phase::ReadyForData { any, since });
+        }
+        self.stop(Fault::EndMarkNotAcknowledged)
+    }
+
+    // F
+    pub(crate) fn acknowledgement(
+        self,
+        limits: Limits,
+        any: bool,
+        ready: u32,
+        since: u32,
+        lines: Lines,
+    ) -> State
+        requires { ⌜ Countable self ⌝ }
+        ensures { λ r. ⌜ r ≡ phaseStep limits self (Phase.Acknowledgement any ready since) lines ⌝ }
+    {
+        let now = self.tick;
+        if lines.clk {
+            return self.stop(Fault::OutOfTurn);
+        }
+        if lines.data {
+            if below(limits.acknowledge_most, since, now) {
+                return self.go(Phase::Acknowledgement { any, ready, since });
+            }
+            return self.stop(Fault::AcknowledgementLong);
+        }
+        if below(limits.acknowledge_least, since, now) {
+            return self.stop(Fault::AcknowledgementShort);
+        }
+        self.go(Phase::Acknowledged {
+            any,
+            ready,
+            since: now,
+        })
+    }
+
+    // G; the 512 goes on counting from the first tick of D
+    pub(crate) fn acknowledged(
+        self,
+        limits: Limits,
+        any: bool,
+        ready: u32,
+        since: u32,
+        lines: Lines,
+    ) -> State
+        requires { ⌜ Countable self ⌝ }
+        ensures { λ r. ⌜ r ≡ phaseStep limits self (Phase.Acknowledged any ready since) lines ⌝ }
+    {
+        let now = self.tick;
+        if lines.clk {
+            if up_to(limits.response, since, now) {
+                return self.go(Phase::SetUp {
+                    mark: true,
+                    left: 7,
+                    value: 0,
+                    since: now,
+                    last: lines.data,
+                });
+            }
+            return self.stop(Fault::LateClock);
+        }
+        if lines.data {
+            return self.stop(Fault::OutOfTurn);
+        }
+        if below(limits.sender_timeout, ready, now) {
+            return self.go(Phase::Acknowledged { any, ready, since });
+        }
+        if any {
+            return self.stop(Fault::SenderTimeout);
+        }
+        self.stop(Fault::EmptyStream)
+    }
+}

@@ -1,0 +1,266 @@
+// The state of the reading, and one tick of it.
+ghost use mathlib.Core.Path.{_≡_};
+ghost use Rattle.transfer.specs.Phases.{Go, Hand, Stop};
+ghost use Rattle.transfer.specs.Reading.{follow, phaseStep, nextState, firstState, isDecided, decisionOf, Countable};
+use crate::limits::Limits;
+use crate::lines::Lines;
+use crate::phase::Byte;
+use crate::phase::Phase;
+use crate::verdict::Decision;
+use crate::verdict::Fault;
+use crate::verdict::Verdict;
+
+// `tick` is the next tick to be read, or the deciding one; `count` bytes were handed over, `handed` last.
+pub struct State {
+    pub phase: Phase,
+    pub tick: u32,
+    pub count: u32,
+    pub handed: Byte,
+}
+
+impl State {
+    pub fn new() -> State
+        ensures { λ r. ⌜ r ≡ firstState ⌝ }
+    {
+        State {
+            phase: Phase::Start,
+            tick: 0,
+            count: 0,
+            handed: Byte {
+                value: 0,
+                let_go: 0,
+                take: 0,
+            },
+        }
+    }
+
+    // The tick leads on into a phase, or keeps it.
+    pub(crate) fn go(self, phase: Phase) -> State
+        requires { ⌜ Countable self ⌝ }
+        ensures { λ r. ⌜ r ≡ follow self (Go phase) ⌝ }
+    {
+        let handed = self.handed;
+        State {
+            phase,
+            tick: self.tick + 1,
+            count: self.count,
+            handed,
+        }
+    }
+
+    // The tick hands a byte over and leads on into a phase.
+    pub(crate) fn hand(self, byte: Byte, phase: Phase) -> State
+        requires { ⌜ Countable self ⌝ }
+        ensures { λ r. ⌜ r ≡ follow self (Hand byte phase) ⌝ }
+    {
+        State {
+            phase,
+            tick: self.tick + 1,
+            count: self.count + 1,
+            handed: byte,
+        }
+    }
+
+    // The tick decides.
+    pub(crate) fn stop(self, fault: Fault) -> State
+        ensures { λ r. ⌜ r ≡ follow self (Stop fault) ⌝ }
+    {
+        let handed = self.handed;
+        State {
+            phase: Phase::Decided { fault },
+            tick: self.tick,
+            count: self.count,
+            handed,
+        }
+    }
+
+    // The rows of the phase that the state is in, for a tick with ATN released.
+    fn rows(self, limits: Limits, lines: Lines) -> State
+        requires { ⌜ Countable self ⌝ }
+        ensures { λ r. ⌜ r ≡ phaseStep limits self (self .phase) lines ⌝ }
+    {
+        let phase = self.phase;
+        match phase {
+            Phase::Start => self.start(limits, lines),
+            Phase::FirstHold => self.first_hold(limits, lines),
+            Phase::Hold { byte, mark } => self.hold(limits, byte, mark, lines),
+            Phase::ReadyToSend { any, ended } => self.ready_to_send(limits, any, ended, lines),
+            Phase::ReadyForData { any, since } => self.ready_for_data(limits, any, since, lines),
+            Phase::Acknowledgement { any, ready, since } => self.acknowledgement(
+                limits,
+                any,
+                ready,
+                since,
+                lines,
+            ),
+            Phase::Acknowledged { any, ready, since } => self.acknowledged(
+                limits,
+                any,
+                ready,
+                since,
+                lines,
+            ),
+            Phase::SetUp {
+                mark,
+                left,
+                value,
+                since,
+                last,
+            } => self.set_up(limits, mark, left, value, since, last, lines),
+            Phase::Valid {
+                mark,
+                left,
+                value,
+                since,
+                bit,
+            } => self.valid(limits, mark, left, value, since, bit, lines),
+            Phase::Open {
+                mark,
+                value,
+                since,
+                let_go,
+            } => self.open(limits, mark, value, since, let_go, lines),
+            Phase::Carried { mark, value, since } => self.carried(
+                limits,
+                mark,
+                value,
+                since,
+                lines,
+            ),
+            Phase::End { finish } => self.end(limits, finish, lines),
+            Phase::Decided { fault } => self.stop(fault),
+        }
+    }
+
+    // One tick. A verdict stands for good; then ATN comes before anything else.
+    pub fn next(self, limits: Limits, lines: Lines) -> State
+        requires { ⌜ Countable self ⌝ }
+        ensures { λ r. ⌜ r ≡ nextState limits self lines ⌝ }
+    {
+        if self.is_decided() {
+            return self;
+        }
+        if lines.atn {
+            return self.stop(Fault::Attention);
+        }
+        self.rows(limits, lines)
+    }
+
+    // A verdict has fallen.
+    pub fn is_decided(self) -> bool
+        ensures { λ r. ⌜ r ≡ isDecided (self .phase) ⌝ }
+    {
+        let phase = self.phase;
+        match phase {
+            Phase::Start => false,
+            Phase::FirstHold => false,
+            Phase::Hold { byte, mark } => false,
+            Phase::ReadyToSend { any, ended } => false,
+            Phase::ReadyForData { any, since } => false,
+            Phase::Acknowledgement { any, ready, since } => false,
+            Phase::Acknowledged { any, ready, since } => false,
+            Phase::SetUp {
+                mark,
+                left,
+                value,
+                since,
+                last,
+            } => false,
+            Phase::Valid {
+                mark,
+                left,
+                value,
+                since,
+                bit,
+            } => false,
+            Phase::Open {
+                mark,
+                value,
+                since,
+                let_go,
+            } => false,
+            Phase::Carried { mark, value, since } => false,
+            Phase::End { finish } => false,
+            Phase::Decided { fault } => true,
+        }
+    }
+
+    // What the recording comes to if it runs out here.
+    pub fn decision(self) -> Decision
+        ensures { λ r. ⌜ r ≡ decisionOf (self .phase) (self .tick) ⌝ }
+    {
+        let phase = self.phase;
+        let tick = self.tick;
+        match phase {
+            Phase::Start => Decision {
+                verdict: Verdict::Cut,
+                tick,
+            },
+            Phase::FirstHold => Decision {
+                verdict: Verdict::Cut,
+                tick,
+            },
+            Phase::Hold { byte, mark } => Decision {
+                verdict: Verdict::Cut,
+                tick,
+            },
+            Phase::ReadyToSend { any, ended } => Decision {
+                verdict: Verdict::Cut,
+                tick,
+            },
+            Phase::ReadyForData { any, since } => Decision {
+                verdict: Verdict::Cut,
+                tick,
+            },
+            Phase::Acknowledgement { any, ready, since } => Decision {
+                verdict: Verdict::Cut,
+                tick,
+            },
+            Phase::Acknowledged { any, ready, since } => Decision {
+                verdict: Verdict::Cut,
+                tick,
+            },
+            Phase::SetUp {
+                mark,
+                left,
+                value,
+                since,
+                last,
+            } => Decision {
+                verdict: Verdict::Cut,
+                tick,
+            },
+            Phase::Valid {
+                mark,
+                left,
+                value,
+                since,
+                bit,
+            } => Decision {
+                verdict: Verdict::Cut,
+                tick,
+            },
+            Phase::Open {
+                mark,
+                value,
+                since,
+                let_go,
+            } => Decision {
+                verdict: Verdict::Cut,
+                tick,
+            },
+            Phase::Carried { mark, value, since } => Decision {
+                verdict: Verdict::Cut,
+                tick,
+            },
+            Phase::End { finish } => Decision {
+                verdict: Verdict::Complete,
+                tick: finish,
+            },
+            Phase::Decided { fault } => Decision {
+                verdict: Verdict::Broken(fault),
+                tick,
+            },
+        }
+    }
+}
