@@ -1,0 +1,69 @@
+-- A recording whose form is good has all that `GoodForm` says, and its ticks are few. Assumes nothing.
+use Prim.Native.Nat.{ℕ, zero, suc, _+_, _*_, _<_, _≤_}
+use mathlib.Core.List.{List}
+use mathlib.Core.Path.{_≡_, sym, ap, _∙_}
+use native.Mathlib.Nat.{add-zero, zero-add}
+use native.Mathlib.Omega.{arith}
+use lib.Dec.{ltb}
+use lib.ListN.{length}
+use Rattle.recording.specs.Choice.{differs}
+use Rattle.recording.specs.Layout.{headerAt, stepAt, headerSize, mostSteps, longestDuration, stepPlace, fileLength}
+use Rattle.recording.specs.Ticks.{stepsFrom, stepsOf, totalTicks, ticksOf}
+use Rattle.recording.specs.Form.{headerTest, stepTest, stepsForm, bodyForm, formOf}
+use Rattle.recording.specs.GoodForm.{Bytes, GoodStep, GoodForm}
+use Rattle.recording.specs.declared.form.Form.{Form}
+use Rattle.recording.specs.declared.form.Form.the-variants.{Good}
+use Rattle.recording.proofs.Tests.{good-else, good-after, same}
+use Rattle.recording.proofs.StepLaws.{total-counts}
+use Rattle.recording.proofs.PassedLaws.{header-passed, step-passed}
+
+-- Each of the k steps from step i on passed its test.
+steps-passed : (file : List ℕ) (k i : ℕ) (rest : Form) (n : ℕ) → stepsForm i (stepsFrom file i k) rest ≡ Good n
+    → ((j : ℕ) → j < k → GoodStep (stepAt file (i + j))) × (rest ≡ Good n)
+unfolding stepsForm stepsFrom
+steps-passed file zero i rest n e = (λ j h. absurd (omega arith), e)
+steps-passed file (suc k) i rest n e =
+    let first = good-after (stepTest (stepAt file i)) i _ n e in
+    let later = steps-passed file k (suc i) rest n (first .1) in
+    (at (step-passed _ (first .0)) (later .0), later .1)
+  where
+    at : GoodStep (stepAt file i) → ((j : ℕ) → j < k → GoodStep (stepAt file (suc i + j)))
+        → (j : ℕ) → j < suc k → GoodStep (stepAt file (i + j))
+    at first later zero h = rw (add-zero i) first
+    at first later (suc j) h = let z : i + suc j ≡ suc i + j = omega arith in rw z (later j (omega arith))
+
+pub good-form : (file : List ℕ) (n : ℕ) → formOf file ≡ Good n → GoodForm file n
+unfolding formOf bodyForm stepsOf ticksOf
+good-form file n e =
+    let h = headerAt file in
+    let long = good-else (ltb (length file) headerSize) _ 0 _ n e in
+    let header = good-after (headerTest h (length file)) 0 _ n (long .1) in
+    let steps = steps-passed file (h .steps) 0 _ n (header .1) in
+    let total = good-else (differs (h .total) (totalTicks (stepsOf file))) _ 0 _ n (steps .1) in
+    let good = header-passed h (length file) (header .0) in
+    let count : h .steps ≡ n = cc in
+    record {
+      counted = sym count;
+      few = omega (arith, good .few);
+      whole = good .whole ∙ ap fileLength count;
+      each = λ i less. rw zero-add at (steps .0 i (omega arith));
+      total = same _ _ (total .0) ∙ total-counts (stepsOf file);
+    }
+
+duration-fits : (file : List ℕ) → Bytes file → (i : ℕ) → stepAt file i .duration ≤ longestDuration
+duration-fits file bytes i = omega (arith, bytes (stepPlace i), bytes (stepPlace i + 1))
+
+total-fits : (file : List ℕ) → Bytes file → (k i : ℕ) → totalTicks (stepsFrom file i k) ≤ k * longestDuration
+unfolding totalTicks stepsFrom
+total-fits file bytes zero i = omega arith
+total-fits file bytes (suc k) i =
+    let first = duration-fits file bytes i in
+    let later = total-fits file bytes k (suc i) in
+    omega arith
+
+pub few-ticks : (file : List ℕ) (n : ℕ) → Bytes file → GoodForm file n → length (ticksOf file) ≤ mostSteps * longestDuration
+unfolding ticksOf stepsOf
+few-ticks file n bytes good =
+    let sum = total-fits file bytes (headerAt file .steps) 0 in
+    let same-sum = total-counts (stepsOf file) in
+    omega (arith, good .counted, good .few)

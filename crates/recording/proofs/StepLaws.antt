@@ -1,0 +1,47 @@
+-- How the steps of a recording, and their ticks, go on by one step: for a loop at step i of n. Assumes nothing.
+use Prim.Native.Nat.{ℕ, suc, _+_, _-_, _<_, _≤_}
+use mathlib.Core.List.{List, [], _∷_, _++_}
+use mathlib.Core.Path.{_≡_, refl, ap}
+use native.Mathlib.Nat.{sub-zero}
+use native.Mathlib.Numerals.{add-one}
+use native.Mathlib.Omega.{arith}
+use lib.ListN.{length, replicate, length-append, length-replicate}
+use Rattle.recording.specs.Layout.{headerAt, stepAt}
+use Rattle.recording.specs.Ticks.{stepsFrom, stepsOf, totalTicks, ticks, ticksOf}
+use Rattle.recording.specs.declared.step.Step.{Step}
+
+one-less : (i n : ℕ) → i < n → n - i ≡ suc (n - (i + 1))
+one-less i n h = omega arith
+
+-- Step i is left; s is what was read there.
+pub steps-begin : (file : List ℕ) (i n : ℕ) (s : Step) → s ≡ stepAt file i → i < n
+    → stepsFrom file i (n - i) ≡ s ∷ stepsFrom file (i + 1) (n - (i + 1))
+unfolding stepsFrom
+steps-begin file i n s e h = rw (one-less i n h, e, add-one i)
+
+-- No step is left.
+pub steps-end : (file : List ℕ) (i n : ℕ) → n ≤ i → stepsFrom file i (n - i) ≡ []
+unfolding stepsFrom
+steps-end file i n h = let z : n - i ≡ 0 = omega arith in rw z
+
+-- Before the first step all ticks are left.
+pub ticks-all : (file : List ℕ) (n : ℕ) → n ≡ headerAt file .steps → ticksOf file ≡ ticks (stepsFrom file 0 (n - 0))
+unfolding ticksOf stepsOf
+ticks-all file n e = rw (sub-zero, e)
+
+pub ticks-begin : (file : List ℕ) (i n : ℕ) (s : Step) → s ≡ stepAt file i → i < n
+    → ticks (stepsFrom file i (n - i)) ≡ replicate (s .duration) (s .lines) ++ ticks (stepsFrom file (i + 1) (n - (i + 1)))
+unfolding ticks
+ticks-begin file i n s e h = ap ticks (steps-begin file i n s e h)
+
+pub ticks-end : (file : List ℕ) (i n : ℕ) → n ≤ i → ticks (stepsFrom file i (n - i)) ≡ []
+unfolding ticks
+ticks-end file i n h = ap ticks (steps-end file i n h)
+
+-- The durations count the ticks.
+pub total-counts : (steps : List Step) → totalTicks steps ≡ length (ticks steps)
+unfolding totalTicks ticks
+total-counts [] = refl
+total-counts (s ∷ ss) =
+    let rest = total-counts ss in
+    simp (length-append, length-replicate) (omega arith)

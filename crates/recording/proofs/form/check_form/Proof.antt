@@ -1,0 +1,56 @@
+-- `check_form` meets its contract: each return is a law of the form. Assumes nothing.
+use mathlib.Core.Path.{sym, _∙_}
+use native.Mathlib.Omega.{arith}
+use Rattle.recording.proofs.FormLaws.{short-file, header-refuses, header-passes}
+use Rattle.recording.proofs.PassedLaws.{header-passed}
+use borrow.Author.Needs.{needs}
+use Rattle.recording.proofs.form.check_form.Statement.{statement}
+use Rattle.recording.proofs.form.check_form.Tie as tie
+
+returns : tie.Need-returns
+returns c = sym (short-file _ (search needs))
+
+read-requires : tie.Need-read-requires
+read-requires c κs = search needs
+
+test-requires : tie.Need-test-requires
+test-requires c κs = search needs
+
+enum-known-refusal : tie.Need-enum-known-refusal
+enum-known-refusal c = search needs
+
+enum-told : tie.Need-enum-told
+enum-told c = search needs
+
+check-steps-requires : tie.Need-check-steps-requires
+check-steps-requires c κs =
+    let h = c .before .before .before .read in
+    let t = c .before .before .test in
+    let good = header-passed (h .result) _ (sym (t .ensures) ∙ c .enum-told .given .1) in
+    omega arith
+
+returns-2 : tie.Need-returns-2
+returns-2 c =
+    let h = c .before .before .before .before .read in
+    let t = c .before .before .before .test in
+    sym (header-refuses _ (h .result) (t .result) (h .ensures) (t .ensures) (search needs) _ (c .before .refusal .given .1))
+
+returns-3 : tie.Need-returns-3
+returns-3 c =
+    let h = c .before .before .before .before .read in
+    let t = c .before .before .before .test in
+    c .check-steps .ensures
+    ∙ sym (header-passes _ (h .result) (t .result) (h .ensures) (t .ensures) (search needs) (c .before .enum-told .given .1))
+
+pub check-form-spec : {M : Type 1} → statement M
+check-form-spec =
+    tie.close
+    (tie.spec
+    returns
+    read-requires
+    test-requires
+    enum-known-refusal
+    enum-told
+    check-steps-requires
+    returns-2
+    returns-3)

@@ -1,0 +1,7 @@
+-- What a recording's bytes mean, and when a recording is refused.
+pub mod Choice
+pub mod Layout
+pub mod Refusals
+pub mod Ticks
+pub mod Form
+pub mod GoodForm

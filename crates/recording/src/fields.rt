@@ -1,0 +1,31 @@
+// Little-endian numbers of two and of four bytes.
+ghost use mathlib.Core.Path.{_≡_};
+ghost use Prim.Native.Nat.{_+_, _*_, _≤_};
+ghost use lib.ListN.{length};
+ghost use Rattle.recording.specs.Layout.{u16At, u32At};
+
+fn join_bytes(low: u8, high: u8) -> u16
+    ensures { λ r. ⌜ r ≡ low + high * 256 ⌝ }
+{
+    (low as u16) + (high as u16) * 256
+}
+
+fn join_halves(low: u16, high: u16) -> u32
+    ensures { λ r. ⌜ r ≡ low + high * 65536 ⌝ }
+{
+    (low as u32) + (high as u32) * 65536
+}
+
+pub fn u16_at(file: &[u8], at: usize) -> u16
+    requires { ⌜ at + 2 ≤ length (now file) ⌝ }
+    ensures { λ r. ⌜ r ≡ u16At (now (file .entry)) at ⌝ }
+{
+    join_bytes(file[at], file[at + 1])
+}
+
+pub fn u32_at(file: &[u8], at: usize) -> u32
+    requires { ⌜ at + 4 ≤ length (now file) ⌝ }
+    ensures { λ r. ⌜ r ≡ u32At (now (file .entry)) at ⌝ }
+{
+    join_halves(u16_at(file, at), u16_at(file, at + 2))
+}

@@ -1,0 +1,61 @@
+// Whether a recording is of good form, and if not, what it is refused for.
+ghost use mathlib.Core.Path.{_≡_};
+ghost use Prim.Native.Nat.{_≤_};
+ghost use lib.ListN.{length};
+ghost use Rattle.recording.specs.Layout.{mostSteps, fileLength};
+ghost use Rattle.recording.specs.Form.{formOf, bodyForm};
+ghost use Rattle.recording.specs.Ticks.{stepsFrom};
+use crate::header::Header;
+use crate::refusal::Refusal;
+use crate::refusal::Test;
+use crate::step::Step;
+
+pub enum Form {
+    Good { steps: usize },
+    // The step is the offending one for refusals 6 and 7, otherwise 0.
+    Refused { refusal: Refusal, step: u32 },
+}
+
+pub fn check_form(file: &[u8]) -> Form
+    ensures { λ r. ⌜ r ≡ formOf (now (file .entry)) ⌝ }
+{
+    if file.len() < Header::SIZE {
+        return Form::Refused {
+            refusal: Refusal::ShortFile,
+            step: 0,
+        };
+    }
+    let header = Header::read(file);
+    match header.test(file.len()) {
+        Test::Failed(refusal) => Form::Refused { refusal, step: 0 },
+        Test::Passed => check_steps(file, header),
+    }
+}
+
+// Refusals 6 to 8: each step, first to last, and after all of them the total.
+fn check_steps(file: &[u8], header: Header) -> Form
+    requires { ⌜ (header .steps ≤ mostSteps) × (fileLength (header .steps) ≤ length (now file)) ⌝ }
+    ensures { λ r. ⌜ r ≡ bodyForm header (stepsFrom (now (file .entry)) 0 (header .steps)) ⌝ }
+{
+    let steps = header.steps as usize;
+    let mut sum: u32 = 0;
+    let mut index: usize = 0;
+    while index < steps {
+        let step = Step::read(file, index);
+        if let Test::Failed(refusal) = step.test() {
+            return Form::Refused {
+                refusal,
+                step: index as u32,
+            };
+        }
+        sum += step.duration as u32;
+        index += 1;
+    }
+    if header.total != sum {
+        return Form::Refused {
+            refusal: Refusal::WrongTotal,
+            step: 0,
+        };
+    }
+    Form::Good { steps }
+}

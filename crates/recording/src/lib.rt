@@ -1,0 +1,12 @@
+// The recording file: its header and steps, the test of its form, and the refusals that the test gives.
+mod fields;
+mod form;
+mod header;
+mod refusal;
+mod step;
+
+pub use crate::form::Form;
+pub use crate::form::check_form;
+pub use crate::header::Header;
+pub use crate::refusal::Refusal;
+pub use crate::step::Step;

@@ -1,0 +1,52 @@
+// One step: the lines as they stand for a number of ticks.
+ghost use mathlib.Core.Path.{_≡_};
+ghost use Prim.Native.Nat.{_+_, _≤_};
+ghost use lib.ListN.{length};
+ghost use Rattle.recording.specs.Layout.{stepAt, stepPlace, stepSize};
+ghost use Rattle.recording.specs.Form.{stepTest};
+use crate::fields;
+use crate::header::Header;
+use crate::refusal::Refusal;
+use crate::refusal::Test;
+
+pub struct Step {
+    pub duration: u16,
+    pub lines: u8,
+    pub last: u8,
+}
+
+impl Step {
+    pub const SIZE: usize = 4;
+
+    // The lines are bits 0 to 3, so a byte with no other bit is below this.
+    pub const LINE_BOUND: u8 = 16;
+
+    pub fn read(file: &[u8], index: usize) -> Step
+        requires { ⌜ stepPlace index + stepSize ≤ length (now file) ⌝ }
+        ensures { λ r. ⌜ r ≡ stepAt (now (file .entry)) index ⌝ }
+    {
+        let at = Header::SIZE + Step::SIZE * index;
+        let duration = fields::u16_at(file, at);
+        Step {
+            duration,
+            lines: file[at + 2],
+            last: file[at + 3],
+        }
+    }
+
+    // Refusals 6 and 7.
+    pub(crate) fn test(self) -> Test
+        ensures { λ r. ⌜ r ≡ stepTest self ⌝ }
+    {
+        if self.duration == 0 {
+            return Test::Failed(Refusal::ZeroDuration);
+        }
+        if Step::LINE_BOUND <= self.lines {
+            return Test::Failed(Refusal::StrayBits);
+        }
+        if self.last != 0 {
+            return Test::Failed(Refusal::StrayBits);
+        }
+        Test::Passed
+    }
+}
