@@ -1,1 +1,4 @@
 pub mod Tests
+pub mod Rows
+pub mod Run
+pub mod Room

@@ -5,8 +5,8 @@ use mathlib.Core.Path.{_≡_, refl, sym, ap, _∙_}
 use mathlib.Core.Bool.{Bool, true, false}
 use borrow.Author.Tests.{eq-eqb, ne-eqb}
 use Rattle.transfer.specs.Offsets.{below, upTo}
-use Rattle.transfer.specs.Phases.{Step, same, afterBit}
-use Rattle.transfer.specs.Reading.{phaseStep, decisionOf, isDecided}
+use Rattle.transfer.specs.Phases.{Move, same, afterBit}
+use Rattle.transfer.specs.Reading.{readIn, decisionOf, isDecided}
 use Rattle.transfer.specs.declared.lines.Lines.{Lines}
 use Rattle.transfer.specs.declared.limits.Limits.{Limits}
 use Rattle.transfer.specs.declared.state.State.{State}
@@ -42,18 +42,18 @@ same-on a b e = e
 pub same-off : (a b : Bool) → same a b ≡ false → same a b ≡ false
 same-off a b e = e
 
-pub last-bit : (n : ℕ) (x : Step) (f : ℕ → Step) → n ≡ 0 → afterBit n x f ≡ x
+pub last-bit : (n : ℕ) (x : Move) (f : ℕ → Move) → n ≡ 0 → afterBit n x f ≡ x
 unfolding afterBit
 last-bit n x f e = ap (λ k. afterBit k x f) e
 
-pub more-bits : (n : ℕ) (x : Step) (f : ℕ → Step) → (n ≡ 0 → ⊥) → afterBit n x f ≡ f (n - 1)
+pub more-bits : (n : ℕ) (x : Move) (f : ℕ → Move) → (n ≡ 0 → ⊥) → afterBit n x f ≡ f (n - 1)
 unfolding afterBit
 more-bits zero x f e = absurd (e refl)
 more-bits (suc n) x f e = ap f (omega arith)
 
 -- The phase that an arm was told.
-pub told : (L : Limits) (s : State) (l : Lines) {p q : Phase} → p ≡ q → phaseStep L s q l ≡ phaseStep L s p l
-told L s l e = sym (ap (λ (p : Phase). phaseStep L s p l) e)
+pub told : (L : Limits) (s : State) (l : Lines) {p q : Phase} → p ≡ q → readIn L s q l ≡ readIn L s p l
+told L s l e = sym (ap (λ (p : Phase). readIn L s p l) e)
 
 pub decision-told : (tick : ℕ) {p q : Phase} → p ≡ q → decisionOf q tick ≡ decisionOf p tick
 decision-told tick e = sym (ap (λ (p : Phase). decisionOf p tick) e)

@@ -5,3 +5,9 @@ pub mod Offsets
 pub mod Phases
 pub mod Verdicts
 pub mod Reading
+pub mod Outcome
+pub mod Parties
+pub mod Rules
+pub mod Pair
+pub mod Demand3
+pub mod Room

@@ -14,10 +14,10 @@ use Rattle.transfer.specs.declared.verdict.Fault.{Fault}
 use Rattle.transfer.specs.declared.verdict.Fault.the-variants.{EmptyStream, NoReceiver, BadStart, OutOfTurn, EndMarkNotAcknowledged, AcknowledgementShort, AcknowledgementLong, LateClock, SenderTimeout, ValidTimeShort, DataMoved, ClockStall, ReceiverTimeout, Hurried, MovedAfterEnd}
 
 -- What one tick does: go to a phase or stay in it, hand a byte over and go to a phase, or decide.
-pub data Step : Type 0 where
-  Go : Phase → Step
-  Hand : Byte → Phase → Step
-  Stop : Fault → Step
+pub data Move : Type 0 where
+  Go : Phase → Move
+  Hand : Byte → Phase → Move
+  Stop : Fault → Move
 
 -- Both pulled or both released.
 unfoldable pub same : (a b : Bool) → Bool
@@ -30,7 +30,7 @@ withBit value true = value / 2 + 128
 withBit value false = value / 2
 
 -- Handover, offset 0: "the CLK pull after bit 8".
-unfoldable pub handover : (mark : Bool) (value now : ℕ) (bit dat : Bool) → Step
+unfoldable pub handover : (mark : Bool) (value now : ℕ) (bit dat : Bool) → Move
 -- "Bit 8 zero and offset 0 shows (1,1): 26. No receiver reacts in the same tick."
 handover mark value now false true = Stop OutOfTurn
 -- Open from here, or carried.
@@ -38,11 +38,11 @@ handover mark value now bit false = Go (Open mark value now now)
 handover mark value now true true = Go (Carried mark value now)
 
 -- After a bit of which `left` follow: the handover, or the next bit's set-up.
-unfoldable pub afterBit : (left : ℕ) → Step → (ℕ → Step) → Step
+unfoldable pub afterBit : (left : ℕ) → Move → (ℕ → Move) → Move
 afterBit zero last more = last
 afterBit (suc left) last more = more left
 
-unfoldable pub next : Limits → (now : ℕ) → Phase → (clk dat : Bool) → Step
+unfoldable pub next : Limits → (now : ℕ) → Phase → (clk dat : Bool) → Move
 -- A start. "Tick 0 with CLK released: 25. CLK released later: 26."
 next L now Start false d = if eqb now 0 then Stop BadStart else Stop OutOfTurn
 -- "(1,1): go to B."

@@ -2,7 +2,7 @@
 use Prim.Native.Nat.{ℕ, _+_, _<_, _^_}
 use mathlib.Core.Bool.{Bool, true, false}
 use Rattle.transfer.specs.Choice.{if_then_else_}
-use Rattle.transfer.specs.Phases.{Step, Go, Hand, Stop, next}
+use Rattle.transfer.specs.Phases.{Move, Go, Hand, Stop, next}
 use Rattle.transfer.specs.declared.limits.Limits.{Limits}
 use Rattle.transfer.specs.declared.lines.Lines.{Lines}
 use Rattle.transfer.specs.declared.phase.Phase.{Phase}
@@ -16,15 +16,15 @@ use Rattle.transfer.specs.declared.verdict.Verdict.the-variants.{Complet
 abbrev pub firstState : State
 firstState = record { phase = Start; tick = 0; count = 0; handed = record { value = 0; «let_go» = 0; take = 0 } }
 
--- The state after a step. A deciding tick is not passed: it stays the state's tick.
-unfoldable pub follow : State → Step → State
+-- The state after a move. A deciding tick is not passed: it stays the state's tick.
+unfoldable pub follow : State → Move → State
 follow s (Go phase) = record { phase = phase; tick = s .tick + 1; count = s .count; handed = s .handed }
 follow s (Hand byte phase) = record { phase = phase; tick = s .tick + 1; count = s .count + 1; handed = byte }
 follow s (Stop fault) = record { phase = Decided fault; tick = s .tick; count = s .count; handed = s .handed }
 
 -- The state after a tick with ATN released that is read in the given phase.
-abbrev pub phaseStep : Limits → State → Phase → Lines → State
-phaseStep L s phase lines = follow s (next L (s .tick) phase (lines .clk) (lines .«data»))
+abbrev pub readIn : Limits → State → Phase → Lines → State
+readIn L s phase lines = follow s (next L (s .tick) phase (lines .clk) (lines .«data»))
 
 -- A verdict has fallen.
 abbrev pub isDecided : Phase → Bool
@@ -47,7 +47,7 @@ unfoldable pub nextState : Limits → State → Lines → State
 nextState L s lines =
     if isDecided (s .phase) then s
     else if lines .atn then follow s (Stop Attention)
-    else phaseStep L s (s .phase) lines
+    else readIn L s (s .phase) lines
 
 -- "The recording running out gives 20 in E, 22 anywhere else." 20 carries the finish tick, 22 the total of ticks, any
 -- other verdict the tick that decided.

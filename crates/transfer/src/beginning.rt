@@ -1,6 +1,6 @@
 // Phases A start, B hold and C ready to send.
 ghost use mathlib.Core.Path.{_≡_};
-ghost use Rattle.transfer.specs.Reading.{phaseStep, Countable};
+ghost use Rattle.transfer.specs.Reading.{readIn, Countable};
 use crate::limits::Limits;
 use crate::lines::Lines;
 use crate::offset::below;
@@ -13,7 +13,7 @@ impl State {
     // A
     pub(crate) fn start(self, limits: Limits, lines: Lines) -> State
         requires { ⌜ Countable self ⌝ }
-        ensures { λ r. ⌜ r ≡ phaseStep limits self Phase.Start lines ⌝ }
+        ensures { λ r. ⌜ r ≡ readIn limits self Phase.Start lines ⌝ }
     {
         let now = self.tick;
         if lines.clk {
@@ -34,7 +34,7 @@ impl State {
     // B, before any byte
     pub(crate) fn first_hold(self, limits: Limits, lines: Lines) -> State
         requires { ⌜ Countable self ⌝ }
-        ensures { λ r. ⌜ r ≡ phaseStep limits self Phase.FirstHold lines ⌝ }
+        ensures { λ r. ⌜ r ≡ readIn limits self Phase.FirstHold lines ⌝ }
     {
         if lines.clk {
             if lines.data {
@@ -54,7 +54,7 @@ impl State {
     // B, after a byte: entering C hands it over
     pub(crate) fn hold(self, limits: Limits, byte: Byte, mark: bool, lines: Lines) -> State
         requires { ⌜ Countable self ⌝ }
-        ensures { λ r. ⌜ r ≡ phaseStep limits self (Phase.Hold byte mark) lines ⌝ }
+        ensures { λ r. ⌜ r ≡ readIn limits self (Phase.Hold byte mark) lines ⌝ }
     {
         let now = self.tick;
         if lines.clk {
@@ -81,7 +81,7 @@ impl State {
     // C
     pub(crate) fn ready_to_send(self, limits: Limits, any: bool, ended: bool, lines: Lines) -> State
         requires { ⌜ Countable self ⌝ }
-        ensures { λ r. ⌜ r ≡ phaseStep limits self (Phase.ReadyToSend any ended) lines ⌝ }
+        ensures { λ r. ⌜ r ≡ readIn limits self (Phase.ReadyToSend any ended) lines ⌝ }
     {
         let now = self.tick;
         if lines.clk {

@@ -1,7 +1,7 @@
 // The eight bits of a byte, least significant first: set-up and valid.
 ghost use mathlib.Core.Path.{_≡_};
 ghost use Rattle.transfer.specs.Phases.{same, withBit};
-ghost use Rattle.transfer.specs.Reading.{phaseStep, Countable};
+ghost use Rattle.transfer.specs.Reading.{readIn, Countable};
 use crate::limits::Limits;
 use crate::lines::Lines;
 use crate::offset::below;
@@ -41,7 +41,7 @@ impl State {
         lines: Lines,
     ) -> State
         requires { ⌜ Countable self ⌝ }
-        ensures { λ r. ⌜ r ≡ phaseStep limits self (Phase.SetUp mark left value since last) lines ⌝ }
+        ensures { λ r. ⌜ r ≡ readIn limits self (Phase.SetUp mark left value since last) lines ⌝ }
     {
         let now = self.tick;
         if lines.clk {
@@ -79,7 +79,7 @@ impl State {
         lines: Lines,
     ) -> State
         requires { ⌜ Countable self ⌝ }
-        ensures { λ r. ⌜ r ≡ phaseStep limits self (Phase.Valid mark left value since bit) lines ⌝ }
+        ensures { λ r. ⌜ r ≡ readIn limits self (Phase.Valid mark left value since bit) lines ⌝ }
     {
         let now = self.tick;
         if lines.clk {

@@ -1,6 +1,6 @@
 // Phase E end.
 ghost use mathlib.Core.Path.{_≡_};
-ghost use Rattle.transfer.specs.Reading.{phaseStep, Countable};
+ghost use Rattle.transfer.specs.Reading.{readIn, Countable};
 use crate::limits::Limits;
 use crate::lines::Lines;
 use crate::phase::Phase;
@@ -10,7 +10,7 @@ use crate::verdict::Fault;
 impl State {
     pub(crate) fn end(self, limits: Limits, finish: u32, lines: Lines) -> State
         requires { ⌜ Countable self ⌝ }
-        ensures { λ r. ⌜ r ≡ phaseStep limits self (Phase.End finish) lines ⌝ }
+        ensures { λ r. ⌜ r ≡ readIn limits self (Phase.End finish) lines ⌝ }
     {
         if lines.clk {
             return self.stop(Fault::MovedAfterEnd);

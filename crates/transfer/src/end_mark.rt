@@ -1,6 +1,6 @@
 // Phases D ready for data, F acknowledgement and G: whether the byte to come has the end mark.
 ghost use mathlib.Core.Path.{_≡_};
-ghost use Rattle.transfer.specs.Reading.{phaseStep, Countable};
+ghost use Rattle.transfer.specs.Reading.{readIn, Countable};
 use crate::limits::Limits;
 use crate::lines::Lines;
 use crate::offset::below;
@@ -13,7 +13,7 @@ impl State {
     // D
     pub(crate) fn ready_for_data(self, limits: Limits, any: bool, since: u32, lines: Lines) -> State
         requires { ⌜ Countable self ⌝ }
-        ensures { λ r. ⌜ r ≡ phaseStep limits self (Phase.ReadyForData any since) lines ⌝ }
+        ensures { λ r. ⌜ r ≡ readIn limits self (Phase.ReadyForData any since) lines ⌝ }
     {
         let now = self.tick;
         if lines.clk {
@@ -54,7 +54,7 @@ impl State {
         lines: Lines,
     ) -> State
         requires { ⌜ Countable self ⌝ }
-        ensures { λ r. ⌜ r ≡ phaseStep limits self (Phase.Acknowledgement any ready since) lines ⌝ }
+        ensures { λ r. ⌜ r ≡ readIn limits self (Phase.Acknowledgement any ready since) lines ⌝ }
     {
         let now = self.tick;
         if lines.clk {
@@ -86,7 +86,7 @@ impl State {
         lines: Lines,
     ) -> State
         requires { ⌜ Countable self ⌝ }
-        ensures { λ r. ⌜ r ≡ phaseStep limits self (Phase.Acknowledged any ready since) lines ⌝ }
+        ensures { λ r. ⌜ r ≡ readIn limits self (Phase.Acknowledged any ready since) lines ⌝ }
     {
         let now = self.tick;
         if lines.clk {

@@ -1,7 +1,7 @@
 // The handover: from the CLK pull after bit 8 to the receiver's take.
 ghost use mathlib.Core.Path.{_≡_};
 ghost use Rattle.transfer.specs.Phases.{handover};
-ghost use Rattle.transfer.specs.Reading.{follow, phaseStep, Countable};
+ghost use Rattle.transfer.specs.Reading.{follow, readIn, Countable};
 use crate::limits::Limits;
 use crate::lines::Lines;
 use crate::offset::below;
@@ -47,7 +47,7 @@ impl State {
         lines: Lines,
     ) -> State
         requires { ⌜ Countable self ⌝ }
-        ensures { λ r. ⌜ r ≡ phaseStep limits self (Phase.Open mark value since «let_go») lines ⌝ }
+        ensures { λ r. ⌜ r ≡ readIn limits self (Phase.Open mark value since «let_go») lines ⌝ }
     {
         let now = self.tick;
         if lines.clk {
@@ -84,7 +84,7 @@ impl State {
         lines: Lines,
     ) -> State
         requires { ⌜ Countable self ⌝ }
-        ensures { λ r. ⌜ r ≡ phaseStep limits self (Phase.Carried mark value since) lines ⌝ }
+        ensures { λ r. ⌜ r ≡ readIn limits self (Phase.Carried mark value since) lines ⌝ }
     {
         let now = self.tick;
         if lines.clk {

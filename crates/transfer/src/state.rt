@@ -1,7 +1,7 @@
 // The state of the reading, and one tick of it.
 ghost use mathlib.Core.Path.{_≡_};
 ghost use Rattle.transfer.specs.Phases.{Go, Hand, Stop};
-ghost use Rattle.transfer.specs.Reading.{follow, phaseStep, nextState, firstState, isDecided, decisionOf, Countable};
+ghost use Rattle.transfer.specs.Reading.{follow, readIn, nextState, firstState, isDecided, decisionOf, Countable};
 use crate::limits::Limits;
 use crate::lines::Lines;
 use crate::phase::Byte;
@@ -77,7 +77,7 @@ impl State {
     // The rows of the phase that the state is in, for a tick with ATN released.
     fn rows(self, limits: Limits, lines: Lines) -> State
         requires { ⌜ Countable self ⌝ }
-        ensures { λ r. ⌜ r ≡ phaseStep limits self (self .phase) lines ⌝ }
+        ensures { λ r. ⌜ r ≡ readIn limits self (self .phase) lines ⌝ }
     {
         let phase = self.phase;
         match phase {

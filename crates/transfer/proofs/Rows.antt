@@ -1,0 +1,125 @@
+-- One walk over the rows of the table: how far each has come with its byte, and which lines it settles in. A row that goes on leads
+-- to a phase that its own lines keep, so that no row leads to `Decided`, and it comes one place further at most, not at all where
+-- the lines stay. Assumes nothing.
+use Prim.Native.Nat.{ℕ, zero, suc, _+_, _-_, _*_, _≤_}
+use native.Mathlib.Omega.{arith}
+use mathlib.Core.Path.{_≡_, refl}
+use mathlib.Core.Bool.{Bool, true, false, not, _&&_}
+use lib.Dec.{eqb}
+use Rattle.transfer.specs.Choice.{if_then_else_}
+use Rattle.transfer.specs.Offsets.{below, upTo}
+use Rattle.transfer.specs.Phases.{Move, Go, Hand, Stop, next, same, handover, afterBit}
+use Rattle.transfer.specs.declared.limits.Limits.{Limits}
+use Rattle.transfer.specs.declared.phase.Byte.{Byte}
+use Rattle.transfer.specs.declared.phase.Phase.{Phase}
+use Rattle.transfer.specs.declared.phase.Phase.the-variants.{Start, FirstHold, Hold, ReadyToSend, ReadyForData, Acknowledgement, Acknowledged, SetUp, Valid, Open, Carried, End, Decided}
+use Rattle.transfer.specs.declared.verdict.Fault.{Fault}
+
+-- How far the reading of a byte has come: 19 places make a byte.
+abbrev pub place : Phase → ℕ
+place Start = 0
+place FirstHold = 0
+place (Hold byte mark) = 18
+place (ReadyToSend any ended) = 0
+place (ReadyForData any since) = 1
+place (Acknowledgement any ready since) = 1
+place (Acknowledged any ready since) = 1
+place (SetUp mark left value since last) = 16 - 2 * left
+place (Valid mark left value since bit) = 17 - 2 * left
+place (Open mark value since let-go) = 18
+place (Carried mark value since) = 18
+place (End finish) = 0
+place (Decided fault) = 0
+
+-- The lines in which a phase stays.
+abbrev pub settled : Phase → (clk dat : Bool) → Bool
+settled Start c d = c && not d
+settled FirstHold c d = c && d
+settled (Hold byte mark) c d = c && d
+settled (ReadyToSend any ended) c d = not c && d
+settled (ReadyForData any since) c d = not c && not d
+settled (Acknowledgement any ready since) c d = not c && d
+settled (Acknowledged any ready since) c d = not c && not d
+settled (SetUp mark left value since last) c d = c
+settled (Valid mark left value since bit) c d = not c
+settled (Open mark value since let-go) c d = c && not d
+settled (Carried mark value since) c d = c && d
+settled (End finish) c d = not c && not d
+settled (Decided fault) c d = false
+
+-- A place further at most, none where the lines stay.
+abbrev pub further : Bool → ℕ
+further true = 0
+further false = 1
+
+pub data Climbs (most : ℕ) (c d : Bool) : Move → Type 0 where
+  stops : {f : Fault} → Climbs most c d (Stop f)
+  goes : {p : Phase} → place p ≤ most → settled p c d ≡ true → Climbs most c d (Go p)
+  hands : {b : Byte} {p : Phase} → 19 + place p ≤ most → settled p c d ≡ true → Climbs most c d (Hand b p)
+
+on : {most : ℕ} {c d : Bool} (p : Phase) → place p ≤ most → settled p c d ≡ true → Climbs most c d (Go p)
+on p a b = goes a b
+
+over : {most : ℕ} {c d : Bool} (b : Byte) (p : Phase) → 19 + place p ≤ most → settled p c d ≡ true → Climbs most c d (Hand b p)
+over b p a e = hands a e
+
+module _ {most : ℕ} {c d : Bool} where
+  either : (t : Bool) (x y : Move) → Climbs most c d x → Climbs most c d y → Climbs most c d (if t then x else y)
+  either true x y p q = p
+  either false x y p q = q
+
+  if-below : (n s now : ℕ) (x y : Move) → Climbs most c d x → Climbs most c d y → Climbs most c d (if below n s now then x else y)
+  if-below n s now x y p q = either (below n s now) x y p q
+
+  if-upTo : (n s now : ℕ) (x y : Move) → Climbs most c d x → Climbs most c d y → Climbs most c d (if upTo n s now then x else y)
+  if-upTo n s now x y p q = either (upTo n s now) x y p q
+
+  if-same : (a b : Bool) (x y : Move) → Climbs most c d x → Climbs most c d y → Climbs most c d (if same a b then x else y)
+  if-same a b x y p q = either (same a b) x y p q
+
+module _ (L : Limits) where
+  pub climbs : (now : ℕ) (p : Phase) (c d : Bool) → Climbs (place p + further (settled p c d)) c d (next L now p c d)
+  unfolding next handover afterBit
+  climbs now Start false d = either (eqb now 0) _ _ stops stops
+  climbs now Start true true = on _ (omega arith) refl
+  climbs now Start true false = if-below _ _ _ _ _ (on _ (omega arith) refl) stops
+  climbs now FirstHold true true = on _ (omega arith) refl
+  climbs now FirstHold false true = on _ (omega arith) refl
+  climbs now FirstHold true false = stops
+  climbs now FirstHold false false = stops
+  climbs now (Hold byte mark) true true = on _ (omega arith) refl
+  climbs now (Hold byte mark) false true = if-below _ _ _ _ _ stops (over _ _ (omega arith) refl)
+  climbs now (Hold byte mark) true false = stops
+  climbs now (Hold byte mark) false false = stops
+  climbs now (ReadyToSend any ended) false true = on _ (omega arith) refl
+  climbs now (ReadyToSend any false) false false = on _ (omega arith) refl
+  climbs now (ReadyToSend any true) false false = on _ (omega arith) refl
+  climbs now (ReadyToSend any ended) true d = stops
+  climbs now (ReadyForData any since) true d = if-below _ _ _ _ _ (on _ (omega arith) refl) stops
+  climbs now (ReadyForData any since) false true = if-below _ _ _ _ _ stops (on _ (omega arith) refl)
+  climbs now (ReadyForData any since) false false = if-below _ _ _ _ _ (on _ (omega arith) refl) stops
+  climbs now (Acknowledgement any ready since) true d = stops
+  climbs now (Acknowledgement any ready since) false true = if-below _ _ _ _ _ (on _ (omega arith) refl) stops
+  climbs now (Acknowledgement any ready since) false false = if-below _ _ _ _ _ stops (on _ (omega arith) refl)
+  climbs now (Acknowledged any ready since) false true = stops
+  climbs now (Acknowledged any ready since) true d = if-upTo _ _ _ _ _ (on _ (omega arith) refl) stops
+  climbs now (Acknowledged any ready since) false false = if-below _ _ _ _ _ (on _ (omega arith) refl) (either any _ _ stops stops)
+  climbs now (SetUp mark left value since last) true d = if-below _ _ _ _ _ (on _ (omega arith) refl) stops
+  climbs now (SetUp mark left value since last) false d = if-same _ _ _ _ (on _ (omega arith) refl) stops
+  climbs now (Valid mark left value since bit) false d =
+      if-same _ _ _ _ (if-below _ _ _ _ _ (on _ (omega arith) refl) stops) stops
+  climbs now (Valid mark (suc left) value since bit) true d = if-below _ _ _ _ _ stops (on _ (omega arith) refl)
+  climbs now (Valid mark zero value since bit) true false = if-below _ _ _ _ _ stops (on _ (omega arith) refl)
+  climbs now (Valid mark zero value since true) true true = if-below _ _ _ _ _ stops (on _ (omega arith) refl)
+  climbs now (Valid mark zero value since false) true true = if-below _ _ _ _ _ stops stops
+  climbs now (Open mark value since let-go) false d = stops
+  climbs now (Open mark value since let-go) true false = if-below _ _ _ _ _ (on _ (omega arith) refl) stops
+  climbs now (Open mark value since let-go) true true = on _ (omega arith) refl
+  climbs now (Carried mark value since) false false = stops
+  climbs now (Carried mark value since) true true = on _ (omega arith) refl
+  climbs now (Carried mark value since) true false = if-upTo _ _ _ _ _ (on _ (omega arith) refl) stops
+  climbs now (Carried mark value since) false true = if-upTo _ _ _ _ _ stops (over _ _ (omega arith) refl)
+  climbs now (End finish) false false = on _ (omega arith) refl
+  climbs now (End finish) false true = stops
+  climbs now (End finish) true d = stops
+  climbs now (Decided fault) c d = stops

@@ -1,0 +1,73 @@
+-- Demand 3 over tick lists.
+use Prim.Native.Nat.{ℕ, suc, _+_, _≤_, _<_}
+use mathlib.Core.Path.{_≡_}
+use mathlib.Core.Logic.{_↔_}
+use mathlib.Core.Bool.{Bool}
+use mathlib.Core.List.{List, map}
+use Rattle.transfer.specs.Outcome.{outcome}
+use Rattle.transfer.specs.Parties.{Pulls}
+use Rattle.transfer.specs.Pair.{SenderPulls, senderPulls, receiverPulls, gives, values, Pair, SameOrLater, shown}
+use Rattle.transfer.specs.declared.limits.Limits.{Limits}
+use Rattle.transfer.specs.declared.lines.Lines.{Lines}
+use Rattle.transfer.specs.declared.phase.Byte.{Byte}
+use Rattle.transfer.specs.declared.verdict.Verdict.the-variants.{Complete}
+
+-- What the times have to keep among themselves.
+pub record Consistent (L : Limits) : Type 0 where
+  -- D: a CLK pull without the end mark is possible, and allowed as long as D may last
+  pub end-mark : 1 ≤ L .«end_mark»
+  pub end-mark-in-time : L .«end_mark» ≤ suc (L .«end_mark_latest»)
+  pub ready-for-data : 1 ≤ L .«end_mark_latest»
+  -- F
+  pub acknowledge : 1 ≤ L .«acknowledge_least»
+  pub acknowledges : L .«acknowledge_least» ≤ L .«acknowledge_most»
+  -- G: the sender's time-out doesn't cut its response off
+  pub timeout : L .«end_mark_latest» + L .«acknowledge_most» + L .response ≤ L .«sender_timeout»
+  -- Bits
+  pub set-up : 1 ≤ L .«set_up_most»
+  pub valid : 1 ≤ L .«valid_least»
+  pub valids : L .«valid_least» ≤ L .«valid_most»
+  -- Handover: the sender may keep DATA for a tick, stops before the receiver's time is over, and before CLK is released
+  pub keep : 1 ≤ L .«keep_most»
+  pub keep-take : L .«keep_most» < L .«take_latest»
+  pub keep-release : L .«keep_most» ≤ L .«between_bytes»
+
+module _ (L : Limits) (w : List Lines) where
+  -- The bytes handed over with their ticks: the ledger.
+  abbrev pub ledger : List Byte
+  ledger = outcome L w .bytes
+
+  -- "Complete with a string".
+  pub record CompleteWith (string : List ℕ) : Type 0 where
+    pub verdict : outcome L w .verdict ≡ Complete
+    pub bytes : values ledger ≡ string
+
+  -- The tracks of "the shown pair".
+  abbrev pub shownSender : List SenderPulls
+  shownSender = map senderPulls (shown ledger w)
+
+  abbrev pub shownReceiver : List Bool
+  shownReceiver = map receiverPulls (shown ledger w)
+
+  -- Two tracks are a pair for the string, with these ticks, and give the tick list.
+  pub record Explains (string : List ℕ) (sender : List SenderPulls) (receiver : List Bool) (ticks : List Byte) : Type 0 where
+    pub pair : Pair L string sender receiver ticks
+    pub gives-it : gives sender receiver ≡ w
+
+  -- Some rule-keeping sender and receiver could have made the tick list.
+  pub record Explained (string : List ℕ) : Type 0 where
+    pub sender : List SenderPulls
+    pub receiver : List Bool
+    pub ticks : List Byte
+    pub explains : Explains string sender receiver ticks
+
+  pub record Demand3 : Type 0 where
+    -- "complete exactly when some rule-keeping sender and receiver could have made the recording"
+    pub exactly : (string : List ℕ) → CompleteWith string ↔ Explained string
+    -- The shown pair "is a pair for the string, it gives the recording, and its two ticks for each byte are the ledger's".
+    pub shown-pair : (string : List ℕ) → CompleteWith string → Explains string shownSender shownReceiver ledger
+    -- "Every other pair that gives the recording has, at each of the two places of each byte, that tick or a later one."
+    pub earliest : (string : List ℕ) (sender : List SenderPulls) (receiver : List Bool) (ticks : List Byte)
+        → Explains string sender receiver ticks → SameOrLater ledger ticks
+    -- If no pair exists for any string, it is never complete.
+    pub never : ((string : List ℕ) → Explained string → ⊥) → outcome L w .verdict ≡ Complete → ⊥

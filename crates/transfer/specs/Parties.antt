@@ -1,0 +1,151 @@
+-- "The two parties' own rules" of document 01: what a sender and a receiver choose, and the tracks that this makes.
+-- Nothing here comes from the judge's phases; both share the times and the ledger's record alone.
+use Prim.Native.Nat.{ℕ, zero, suc, _+_}
+use mathlib.Core.Bool.{Bool, true, false}
+use mathlib.Core.List.{List, [], _∷_, _++_, map}
+use lib.ListN.{length, replicate}
+use Rattle.transfer.specs.Choice.{if_then_else_}
+use Rattle.transfer.specs.declared.phase.Byte.{Byte}
+
+-- One tick of both tracks: the sender's CLK and DATA pulls, the receiver's DATA pull.
+pub data Pulls : Type 0 where
+  pulls : (clk sender receiver : Bool) → Pulls
+
+-- The ticks that occur. "No other pulls occur."
+-- Nobody pulls; the receiver pulls DATA.
+abbrev pub nobody : Pulls
+nobody = pulls false false false
+
+abbrev pub held : Pulls
+held = pulls false false true
+
+-- The sender pulls CLK alone; with the receiver on DATA; with its own DATA.
+abbrev pub clock : Pulls
+clock = pulls true false false
+
+abbrev pub clockHeld : Pulls
+clockHeld = pulls true false true
+
+abbrev pub clockKept : Pulls
+clockKept = pulls true true false
+
+-- The sender's DATA d in a set-up tick, CLK pulled, and in a valid tick, CLK released.
+abbrev pub sets : Bool → Pulls
+sets d = pulls true d false
+
+abbrev pub offers : Bool → Pulls
+offers d = pulls false d false
+
+-- A bit: the sender's DATA in its set-up ticks, `first` and `others`, and the number of its valid ticks. DATA is free in the
+-- set-up; its last tick is the bit, and the valid ticks keep it.
+pub record Bit : Type 0 where
+  pub first : Bool
+  pub others : List Bool
+  pub valid : ℕ
+
+abbrev pub lastOf : Bool → List Bool → Bool
+lastOf d [] = d
+lastOf d (e ∷ others) = lastOf e others
+
+abbrev pub bit : Bit → Bool
+bit x = lastOf (x .first) (x .others)
+
+-- A byte: its bits, then, counted from the CLK pull after bit 8, the offsets of the sender's letting go of DATA (0 where it
+-- doesn't pull on), of the receiver's take and of the sender's release of CLK; then the ticks until the receiver lets go.
+pub record Frame : Type 0 where
+  pub bits : List Bit
+  pub let-go : ℕ
+  pub take : ℕ
+  pub release : ℕ
+  pub wait : ℕ
+
+-- From a letting go on: the ticks to the CLK pull, a byte that is not the last, and what follows it; or the last byte: the
+-- ticks to the receiver's pull, those of the pull, those to the CLK pull, the byte, and the ticks from the last letting go on.
+pub data Sending : Type 0 where
+  more : (gap : ℕ) → Frame → Sending → Sending
+  last : (gap acknowledgement response : ℕ) → Frame → (silence : ℕ) → Sending
+
+-- The receiver takes DATA at tick `found`; the sender releases CLK `hold` ticks later; the receiver lets go `wait` ticks later.
+pub record Plan : Type 0 where
+  pub found : ℕ
+  pub hold : ℕ
+  pub wait : ℕ
+  pub sending : Sending
+
+-- "The sender sends eight bits ..; the receiver keeps off DATA."
+abbrev pub bitTrack : Bit → List Pulls → List Pulls
+bitTrack x rest = sets (x .first) ∷ (map sets (x .others) ++ (replicate (x .valid) (offers (bit x)) ++ rest))
+
+abbrev pub bitsTrack : List Bit → List Pulls → List Pulls
+bitsTrack [] rest = rest
+bitsTrack (x ∷ xs) rest = bitTrack x (bitsTrack xs rest)
+
+-- "After bit 8 the sender pulls CLK": n ticks, in which the sender pulls DATA before offset `let-go` and the receiver from
+-- offset `take` on.
+abbrev pub isZero : ℕ → Bool
+isZero zero = true
+isZero (suc n) = false
+
+abbrev pub isPositive : ℕ → Bool
+isPositive zero = false
+isPositive (suc n) = true
+
+abbrev pub less : ℕ → ℕ
+less zero = zero
+less (suc n) = n
+
+abbrev pub handoverTrack : (n let-go take : ℕ) → List Pulls
+handoverTrack zero let-go take = []
+handoverTrack (suc n) let-go take =
+    pulls true (isPositive let-go) (isZero take) ∷ handoverTrack n (less let-go) (less take)
+
+abbrev pub frameTrack : Frame → List Pulls → List Pulls
+frameTrack f rest =
+    bitsTrack (f .bits) (handoverTrack (f .release) (f .let-go) (f .take) ++ (replicate (f .wait) held ++ rest))
+
+abbrev pub sendingTrack : Sending → List Pulls
+sendingTrack (more gap f rest) = replicate gap nobody ++ frameTrack f (sendingTrack rest)
+sendingTrack (last gap acknowledgement response f silence) =
+    replicate gap nobody
+    ++ (replicate acknowledgement held
+    ++ (replicate response nobody
+    ++ frameTrack f (replicate silence nobody)))
+
+-- Both tracks, from tick 0 on.
+abbrev pub track : Plan → List Pulls
+track p =
+    replicate (p .found) clock
+    ++ (replicate (p .hold) clockHeld
+    ++ (replicate (p .wait) held
+    ++ sendingTrack (p .sending)))
+
+-- The byte that bits make, least significant first, pulled is one; the first of them weighs `weight`.
+abbrev pub valueOf : (weight : ℕ) → List Bit → ℕ
+valueOf weight [] = 0
+valueOf weight (x ∷ xs) = (if bit x then weight else 0) + valueOf (weight + weight) xs
+
+abbrev pub bitsTicks : List Bit → ℕ
+bitsTicks [] = 0
+bitsTicks (x ∷ xs) = suc (length (x .others) + x .valid) + bitsTicks xs
+
+-- "A pair's two ticks for a byte are the sender's letting go of DATA after bit 8 (where that bit is zero, it stands as
+-- offset 0) and the receiver's take." `now` is the tick of the CLK pull that begins the bits.
+abbrev pub byteOf : (now : ℕ) → Frame → Byte
+byteOf now f =
+    record {
+      value = valueOf 1 (f .bits);
+      «let_go» = now + bitsTicks (f .bits) + f .let-go;
+      take = now + bitsTicks (f .bits) + f .take;
+    }
+
+-- The tick of the letting go that ends a byte.
+abbrev pub afterFrame : (now : ℕ) → Frame → ℕ
+afterFrame now f = now + bitsTicks (f .bits) + f .release + f .wait
+
+abbrev pub sendingBytes : (now : ℕ) → Sending → List Byte
+sendingBytes now (more gap f rest) = byteOf (now + gap) f ∷ sendingBytes (afterFrame (now + gap) f) rest
+sendingBytes now (last gap acknowledgement response f silence) = byteOf (now + gap + acknowledgement + response) f ∷ []
+
+-- The bytes that a plan sends, each with its two ticks.
+abbrev pub planBytes : Plan → List Byte
+planBytes p = sendingBytes (p .found + p .hold + p .wait) (p .sending)
