@@ -2,3 +2,10 @@ pub mod Tests
 pub mod Rows
 pub mod Run
 pub mod Room
+pub mod ByteValue
+pub mod Forward
+pub mod Shapes
+pub mod Plans
+pub mod Backward
+pub mod Shown
+pub mod Demand3

@@ -1,0 +1,388 @@
+-- A complete recording has a pair: the run read back as a plan, row by row. Assumes nothing.
+use Prim.Native.Nat.{ℕ, zero, suc, _+_, _≤_, _<_}
+use native.Mathlib.Omega.{arith}
+use mathlib.Core.Path.{_≡_, refl, sym, ap, _∙_, subst⁻¹}
+use mathlib.Core.Logic.{_⊎_, inl, inr}
+use mathlib.Core.Bool.{Bool, true, false}
+use mathlib.Core.List.{List, [], _∷_, _++_, map}
+use lib.ListN.{length, replicate}
+use lib.Dec.{ltb, leb, eqb}
+use borrow.Author.Tests.{ltb-true, ltb-false, leb-true, leb-false}
+use Rattle.transfer.specs.Choice.{if_then_else_}
+use Rattle.transfer.specs.Offsets.{below, upTo}
+use Rattle.transfer.specs.Phases.{Move, Go, Hand, Stop, next, same, withBit, handover, afterBit}
+use Rattle.transfer.specs.Outcome.{Outcome}
+use Rattle.transfer.specs.Parties.{Pulls, pulls, nobody, held, clock, clockHeld, clockKept, sets, offers, Plan, track, sendingBytes, planBytes}
+use Rattle.transfer.specs.Rules.{PlanRules}
+use Rattle.transfer.specs.Demand3.{Consistent}
+use Rattle.transfer.specs.declared.limits.Limits.{Limits}
+use Rattle.transfer.specs.declared.lines.Lines.{Lines}
+use Rattle.transfer.specs.declared.phase.Byte.{Byte}
+use Rattle.transfer.specs.declared.phase.Phase.{Phase}
+use Rattle.transfer.specs.declared.phase.Phase.the-variants.{Start, FirstHold, Hold, ReadyToSend, ReadyForData, Acknowledgement, Acknowledged, SetUp, Valid, Open, Carried, End, Decided}
+use Rattle.transfer.specs.declared.verdict.Fault.{Fault}
+use Rattle.transfer.specs.declared.verdict.Fault.the-variants.{Attention, ClockStall}
+use Rattle.transfer.specs.declared.verdict.Verdict.{Verdict}
+use Rattle.transfer.specs.declared.verdict.Verdict.the-variants.{Complete, Cut, Broken}
+use Rattle.transfer.proofs.Run.{run, lines, onward, decided, ended, give}
+use Rattle.transfer.proofs.Forward.{shows}
+use Rattle.transfer.proofs.Shapes.{leaves, stay, one, many, Tidy, opens, carries, Shape}
+use Rattle.transfer.proofs.Plans.{sends}
+
+abbrev IsComplete : Verdict → Type 0
+IsComplete Complete = Unit {0}
+IsComplete Cut = ⊥
+IsComplete (Broken f) = ⊥
+
+-- If the outcome is complete, its bytes are as G says.
+record Sound (G : List Byte → Type 0) (o : Outcome) : Type 0 where
+  prove : IsComplete (o .verdict) → G (o .bytes)
+
+dead : (G : List Byte → Type 0) (f : Fault) (now : ℕ) → Sound G (decided f now)
+dead G f now = record { prove = λ h. absurd h }
+
+-- A row with a test: what the test says may be used, and the other arm is no concern.
+module _ (G : List Byte → Type 0) (n since now : ℕ) (x : Move) (f : Fault) (k : Phase → Outcome) where
+  if-below : (now < since + n → Sound G (onward x now k)) → Sound G (onward (if below n since now then x else Stop f) now k)
+  unfolding below
+  if-below h = at (ltb now (since + n)) refl
+    where
+      at : (t : Bool) → ltb now (since + n) ≡ t → Sound G (onward (if t then x else Stop f) now k)
+      at true e = h (ltb-true now (since + n) e)
+      at false e = dead G f now
+
+  unless-below : (since + n ≤ now → Sound G (onward x now k)) → Sound G (onward (if below n since now then Stop f else x) now k)
+  unfolding below
+  unless-below h = at (ltb now (since + n)) refl
+    where
+      at : (t : Bool) → ltb now (since + n) ≡ t → Sound G (onward (if t then Stop f else x) now k)
+      at true e = dead G f now
+      at false e = h (ltb-false now (since + n) e)
+
+  if-upTo : (now ≤ since + n → Sound G (onward x now k)) → Sound G (onward (if upTo n since now then x else Stop f) now k)
+  unfolding upTo
+  if-upTo h = at (leb now (since + n)) refl
+    where
+      at : (t : Bool) → leb now (since + n) ≡ t → Sound G (onward (if t then x else Stop f) now k)
+      at true e = h (leb-true now (since + n) e)
+      at false e = dead G f now
+
+  unless-upTo : (since + n < now → Sound G (onward x now k)) → Sound G (onward (if upTo n since now then Stop f else x) now k)
+  unfolding upTo
+  unless-upTo h = at (leb now (since + n)) refl
+    where
+      at : (t : Bool) → leb now (since + n) ≡ t → Sound G (onward (if t then Stop f else x) now k)
+      at true e = dead G f now
+      at false e = h (leb-false now (since + n) e)
+
+module _ (L : Limits) where
+  -- What holds of the tick that a phase meets.
+  abbrev InTime : Phase → ℕ → Type 0
+  InTime Start now = now ≤ L .presence
+  InTime FirstHold now = Unit {0}
+  InTime (Hold byte mark) now = Unit {0}
+  InTime (ReadyToSend any ended) now = Unit {0}
+  InTime (ReadyForData any since) now = now ≤ since + L .«end_mark_latest»
+  InTime (Acknowledgement any ready since) now = now ≤ since + L .«acknowledge_most»
+  InTime (Acknowledged any ready since) now = Unit {0}
+  InTime (SetUp mark left value since last) now = now ≤ since + L .«set_up_most»
+  InTime (Valid mark left value since bit) now = now ≤ since + L .«valid_most»
+  InTime (Open mark value since let-go) now = now ≤ since + L .«take_latest»
+  InTime (Carried mark value since) now = Unit {0}
+  InTime (End finish) now = Unit {0}
+  InTime (Decided fault) now = Unit {0}
+
+  -- The ticks from a phase on are given by tracks of the phase's shape.
+  record From (p : Phase) (now : ℕ) (w : List Lines) (l : List Byte) : Type 0 where
+    js : List Pulls
+    gives : w ≡ map shows js
+    shape : Shape L p now js l
+
+  -- One tick j, by which a phase leads to another or stays, or hands a byte over.
+  module _ (j : Pulls) (p q : Phase) (now : ℕ) (w : List Lines) (o : Outcome) where
+    goes : ((js : List Pulls) (l : List Byte) → Shape L q (suc now) js l → Shape L p now (j ∷ js) l)
+        → Sound (From q (suc now) w) o → Sound (From p now (shows j ∷ w)) o
+    goes f s =
+        record
+          { prove =
+              λ h.
+                let r = s .prove h in
+                record { js = j ∷ r .js; gives = ap (λ x. shows j ∷ x) (r .gives); shape = f (r .js) (o .bytes) (r .shape) } }
+
+    hands : (b : Byte) → ((js : List Pulls) (l : List Byte) → Shape L q (suc now) js l → Shape L p now (j ∷ js) (b ∷ l))
+        → Sound (From q (suc now) w) o → Sound (From p now (shows j ∷ w)) (give b o)
+    hands b f s =
+        record
+          { prove =
+              λ h.
+                let r = s .prove h in
+                record { js = j ∷ r .js; gives = ap (λ x. shows j ∷ x) (r .gives); shape = f (r .js) (o .bytes) (r .shape) } }
+
+  abbrev Holds : List Lines → Type 0
+  Holds w = (now : ℕ) (p : Phase) → InTime p now → Sound (From p now w) (run L now p w)
+
+  abbrev Row : Phase → (clk dat : Bool) → Type 0
+  Row p c d =
+      (now : ℕ) (w : List Lines) → Holds w → InTime p now
+      → Sound (From p now (lines c d ∷ w)) (onward (next L now p c d) now (λ (q : Phase). run L (suc now) q w))
+
+  row-start : (c d : Bool) → Row Start c d
+  unfolding next
+  row-start false d now w ih i = at (eqb now 0)
+    where
+      at : (t : Bool) → Sound (From Start now (lines false d ∷ w)) (onward (if t then Stop Fault.BadStart else Stop Fault.OutOfTurn) now (λ (q : Phase). run L (suc now) q w))
+      at true = dead _ _ _
+      at false = dead _ _ _
+  row-start true true now w ih i = goes clockHeld Start FirstHold now w _ (λ js l h. leaves (i, one h)) (ih (suc now) FirstHold tt)
+  row-start true false now w ih i = if-below _ _ _ _ _ _ _ (λ a. goes clock Start Start now w _ (λ js l h. stay h) (ih (suc now) Start (omega arith)))
+
+  row-first-hold : (c d : Bool) → Row FirstHold c d
+  unfolding next
+  row-first-hold true true now w ih i = goes clockHeld FirstHold FirstHold now w _ (λ js l h. stay h) (ih (suc now) FirstHold tt)
+  row-first-hold false true now w ih i =
+      goes held FirstHold (ReadyToSend false false) now w _ (λ js l h. leaves (one h)) (ih (suc now) (ReadyToSend false false) tt)
+  row-first-hold true false now w ih i = dead _ _ _
+  row-first-hold false false now w ih i = dead _ _ _
+
+  row-hold : (b : Byte) (m c d : Bool) → Row (Hold b m) c d
+  unfolding next
+  row-hold b m true true now w ih i = goes clockHeld (Hold b m) (Hold b m) now w _ (λ js l h. stay h) (ih (suc now) (Hold b m) tt)
+  row-hold b m false true now w ih i =
+      unless-below _ _ _ _ _ _ _
+        (λ late.
+          hands held (Hold b m) (ReadyToSend true m) now w _ b
+            (λ js l h. leaves (record { late = late; others = l; hands = refl; after = one h })) (ih (suc now) (ReadyToSend true m) tt))
+  row-hold b m true false now w ih i = dead _ _ _
+  row-hold b m false false now w ih i = dead _ _ _
+
+  row-acknowledgement : (any : Bool) (ready s : ℕ) (c d : Bool) → Row (Acknowledgement any ready s) c d
+  unfolding next
+  row-acknowledgement any ready s true d now w ih i = dead _ _ _
+  row-acknowledgement any ready s false true now w ih i =
+      if-below _ _ _ _ _ _ _
+        (λ a.
+          goes held (Acknowledgement any ready s) (Acknowledgement any ready s) now w _ (λ js l h. stay h)
+            (ih (suc now) (Acknowledgement any ready s) a))
+  row-acknowledgement any ready s false false now w ih i =
+      unless-below _ _ _ _ _ _ _
+        (λ a.
+          goes nobody (Acknowledgement any ready s) (Acknowledged any ready now) now w _ (λ js l h. leaves (a, i, one h))
+            (ih (suc now) (Acknowledged any ready now) tt))
+
+  row-end : (f : ℕ) (c d : Bool) → Row (End f) c d
+  unfolding next
+  row-end f true d now w ih i = dead _ _ _
+  row-end f false true now w ih i = dead _ _ _
+  row-end f false false now w ih i =
+      goes nobody (End f) (End f) now w _
+        (λ js l h. record { count = suc (h .count); is = ap (λ x. nobody ∷ x) (h .is); bytes = h .bytes }) (ih (suc now) (End f) tt)
+
+  row-open : (m : Bool) (v s l : ℕ) (c d : Bool) → Row (Open m v s l) c d
+  unfolding next
+  row-open m v s l false d now w ih i = dead _ _ _
+  row-open m v s l true false now w ih i =
+      if-below _ _ _ _ _ _ _ (λ a. goes clock (Open m v s l) (Open m v s l) now w _ (λ js l h. stay h) (ih (suc now) (Open m v s l) a))
+  row-open m v s l true true now w ih i =
+      let b : Byte = record { value = v; «let_go» = l; take = now } in
+      goes clockHeld (Open m v s l) (Hold b m) now w _ (λ js l h. leaves (i, one h)) (ih (suc now) (Hold b m) tt)
+
+  module _ (times : Consistent L) where
+    row-carried : (m : Bool) (v s : ℕ) (c d : Bool) → Row (Carried m v s) c d
+    unfolding next
+    row-carried m v s false false now w ih i = dead _ _ _
+    row-carried m v s true true now w ih i = record { prove = λ h. on _ (ih (suc now) (Carried m v s) tt .prove h) }
+      where
+        by-shape : (l : List Byte) (js : List Pulls) → w ≡ map shows js → Shape L (Carried m v s) (suc now) js l
+            → From (Carried m v s) now (lines true true ∷ w) l
+        by-shape l js e (inl h) = record { js = clockKept ∷ js; gives = ap (λ x. lines true true ∷ x) e; shape = inl (stay h) }
+        by-shape l js e (inr h) = record { js = clockHeld ∷ js; gives = ap (λ x. lines true true ∷ x) e; shape = inr (stay h) }
+        on : (l : List Byte) → From (Carried m v s) (suc now) w l → From (Carried m v s) now (lines true true ∷ w) l
+        on l r = by-shape l (r .js) (r .gives) (r .shape)
+    row-carried m v s true false now w ih i =
+        if-upTo _ _ _ _ _ _ _
+          (λ a.
+            goes clock (Carried m v s) (Open m v s now) now w _ (λ js l h. inl (leaves (a, one h)))
+              (ih (suc now) (Open m v s now) (omega (arith, times .keep-take))))
+    row-carried m v s false true now w ih i =
+        unless-upTo _ _ _ _ _ _ _
+          (λ late.
+            hands held (Carried m v s) (ReadyToSend true m) now w _ (record { value = v; «let_go» = s + 1; take = s + 1 })
+              (λ js l h. inr (leaves (record { late = late; others = l; hands = refl; after = one h }))) (ih (suc now) (ReadyToSend true m) tt))
+
+    row-ready-for-data : (any : Bool) (s : ℕ) (c d : Bool) → Row (ReadyForData any s) c d
+    unfolding next
+    row-ready-for-data any s true d now w ih i =
+        if-below _ _ _ _ _ _ _
+          (λ a.
+            goes (sets d) (ReadyForData any s) (SetUp false 7 0 now d) now w _ (λ js l h. leaves (inl (a, (d, one h))))
+              (ih (suc now) (SetUp false 7 0 now d) (omega (arith, times .set-up))))
+    row-ready-for-data any s false true now w ih i =
+        unless-below _ _ _ _ _ _ _
+          (λ a.
+            goes held (ReadyForData any s) (Acknowledgement any s now) now w _ (λ js l h. leaves (inr (a, i, one h)))
+              (ih (suc now) (Acknowledgement any s now) (omega (arith, times .acknowledge, times .acknowledges))))
+    row-ready-for-data any s false false now w ih i =
+        if-below _ _ _ _ _ _ _
+          (λ a. goes nobody (ReadyForData any s) (ReadyForData any s) now w _ (λ js l h. stay h) (ih (suc now) (ReadyForData any s) a))
+
+    row-acknowledged : (any : Bool) (ready s : ℕ) (c d : Bool) → Row (Acknowledged any ready s) c d
+    unfolding next
+    row-acknowledged any ready s false true now w ih i = dead _ _ _
+    row-acknowledged any ready s true d now w ih i =
+        if-upTo _ _ _ _ _ _ _
+          (λ a.
+            goes (sets d) (Acknowledged any ready s) (SetUp true 7 0 now d) now w _ (λ js l h. leaves (a, (d, one h)))
+              (ih (suc now) (SetUp true 7 0 now d) (omega (arith, times .set-up))))
+    row-acknowledged false ready s false false now w ih i =
+        if-below _ _ _ _ _ _ _
+          (λ a. goes nobody (Acknowledged false ready s) (Acknowledged false ready s) now w _ (λ js l h. stay h) (ih (suc now) (Acknowledged false ready s) tt))
+    row-acknowledged true ready s false false now w ih i =
+        if-below _ _ _ _ _ _ _
+          (λ a. goes nobody (Acknowledged true ready s) (Acknowledged true ready s) now w _ (λ js l h. stay h) (ih (suc now) (Acknowledged true ready s) tt))
+
+    -- The last set-up tick shows b, and the first valid tick too.
+    to-valid : (m : Bool) (left v s : ℕ) (b : Bool) (now : ℕ) (w : List Lines) → Holds w → InTime (SetUp m left v s b) now
+        → Sound (From (SetUp m left v s b) now (lines false b ∷ w)) (run L (suc now) (Valid m left v now b) w)
+    to-valid m left v s b now w ih i =
+        goes (offers b) (SetUp m left v s b) (Valid m left v now b) now w _
+          (λ js l h. record { pulled = []; till = now; rest = offers b ∷ js; ends = omega arith; fits = i; splits = refl; after = one h })
+          (ih (suc now) (Valid m left v now b) (omega (arith, times .valid, times .valids)))
+
+    row-set-up : (m : Bool) (left v s : ℕ) (b c d : Bool) → Row (SetUp m left v s b) c d
+    unfolding next same
+    row-set-up m left v s b true d now w ih i =
+        if-below _ _ _ _ _ _ _
+          (λ a.
+            goes (sets d) (SetUp m left v s b) (SetUp m left v s d) now w _
+              (λ js l h.
+                record
+                  { pulled = d ∷ h .pulled;
+                    till = h .till;
+                    rest = h .rest;
+                    ends = omega (arith, h .ends);
+                    fits = h .fits;
+                    splits = ap (λ x. sets d ∷ x) (h .splits);
+                    after = h .after })
+              (ih (suc now) (SetUp m left v s d) a))
+    row-set-up m left v s true false true now w ih i = to-valid m left v s true now w ih i
+    row-set-up m left v s false false false now w ih i = to-valid m left v s false now w ih i
+    row-set-up m left v s true false false now w ih i = dead _ _ _
+    row-set-up m left v s false false true now w ih i = dead _ _ _
+
+    on-valid : (m : Bool) (left v s : ℕ) (b : Bool) (now : ℕ) (w : List Lines) → Holds w → InTime (Valid m left v s b) now
+        → Sound (From (Valid m left v s b) now (lines false b ∷ w))
+            (onward (if below (L .«valid_most») s now then Go (Valid m left v s b) else Stop ClockStall) now (λ (q : Phase). run L (suc now) q w))
+    on-valid m left v s b now w ih i =
+        if-below _ _ _ _ _ _ _
+          (λ a. goes (offers b) (Valid m left v s b) (Valid m left v s b) now w _ (λ js l h. stay h) (ih (suc now) (Valid m left v s b) a))
+
+    row-valid : (m : Bool) (left v s : ℕ) (b c d : Bool) → Row (Valid m left v s b) c d
+    unfolding next same afterBit handover
+    row-valid m left v s true false true now w ih i = on-valid m left v s true now w ih i
+    row-valid m left v s false false false now w ih i = on-valid m left v s false now w ih i
+    row-valid m left v s true false false now w ih i = dead _ _ _
+    row-valid m left v s false false true now w ih i = dead _ _ _
+    row-valid m (suc left) v s b true d now w ih i =
+        unless-below _ _ _ _ _ _ _
+          (λ a.
+            goes (sets d) (Valid m (suc left) v s b) (SetUp m left (withBit v b) now d) now w _ (λ js l h. leaves (a, i, (d, one h)))
+              (ih (suc now) (SetUp m left (withBit v b) now d) (omega (arith, times .set-up))))
+    row-valid m zero v s b true false now w ih i =
+        unless-below _ _ _ _ _ _ _
+          (λ a.
+            goes clock (Valid m 0 v s b) (Open m (withBit v b) now now) now w _ (λ js l h. leaves (a, i, opens (one h)))
+              (ih (suc now) (Open m (withBit v b) now now) (omega (arith, times .keep-take))))
+    row-valid m zero v s true true true now w ih i =
+        unless-below _ _ _ _ _ _ _
+          (λ a.
+            goes clockKept (Valid m 0 v s true) (Carried m (withBit v true) now) now w _ (λ js l h. leaves (a, i, carries refl (one h)))
+              (ih (suc now) (Carried m (withBit v true) now) tt))
+    row-valid m zero v s false true true now w ih i = unless-below _ _ _ _ _ _ _ (λ a. dead _ _ _)
+
+    row-ready-to-send : (any ended c d : Bool) → Row (ReadyToSend any ended) c d
+    unfolding next
+    row-ready-to-send any ended true d now w ih i = dead _ _ _
+    row-ready-to-send any ended false true now w ih i =
+        goes held (ReadyToSend any ended) (ReadyToSend any ended) now w _ (λ js l h. stay h) (ih (suc now) (ReadyToSend any ended) tt)
+    row-ready-to-send any true false false now w ih i =
+        goes nobody (ReadyToSend any true) (End now) now w _ (λ js l h. leaves (one h)) (ih (suc now) (End now) tt)
+    row-ready-to-send any false false false now w ih i =
+        goes nobody (ReadyToSend any false) (ReadyForData any now) now w _ (λ js l h. leaves (sends L times now (nobody ∷ js) l (one h)))
+          (ih (suc now) (ReadyForData any now) (omega (arith, times .ready-for-data)))
+
+    row : (p : Phase) (c d : Bool) → Row p c d
+    unfolding next
+    row Start c d = row-start c d
+    row FirstHold c d = row-first-hold c d
+    row (Hold b m) c d = row-hold b m c d
+    row (ReadyToSend any ended) c d = row-ready-to-send any ended c d
+    row (ReadyForData any s) c d = row-ready-for-data any s c d
+    row (Acknowledgement any ready s) c d = row-acknowledgement any ready s c d
+    row (Acknowledged any ready s) c d = row-acknowledged any ready s c d
+    row (SetUp m left v s b) c d = row-set-up m left v s b c d
+    row (Valid m left v s b) c d = row-valid m left v s b c d
+    row (Open m v s l) c d = row-open m v s l c d
+    row (Carried m v s) c d = row-carried m v s c d
+    row (End f) c d = row-end f c d
+    row (Decided f) c d = λ now w ih i. dead _ _ _
+
+    cut : (p : Phase) (now : ℕ) → Sound (From p now []) (record { verdict = Cut; tick = now; bytes = [] })
+    cut p now = record { prove = λ h. absurd h }
+
+    runs-out : (p : Phase) (now : ℕ) → Sound (From p now []) (ended p now)
+    runs-out Start now = cut _ _
+    runs-out FirstHold now = cut _ _
+    runs-out (Hold b m) now = cut _ _
+    runs-out (ReadyToSend any ended) now = cut _ _
+    runs-out (ReadyForData any s) now = cut _ _
+    runs-out (Acknowledgement any ready s) now = cut _ _
+    runs-out (Acknowledged any ready s) now = cut _ _
+    runs-out (SetUp m left v s b) now = cut _ _
+    runs-out (Valid m left v s b) now = cut _ _
+    runs-out (Open m v s l) now = cut _ _
+    runs-out (Carried m v s) now = cut _ _
+    runs-out (End f) now =
+        record { prove = λ h. record { js = []; gives = refl; shape = record { count = 0; is = refl; bytes = refl } } }
+    runs-out (Decided f) now = dead _ _ _
+
+    one-more : (p : Phase) (now : ℕ) (w : List Lines) (a c d : Bool) → Holds w → InTime p now
+        → Sound (From p now (record { atn = a; clk = c; «data» = d } ∷ w)) (run L now p (record { atn = a; clk = c; «data» = d } ∷ w))
+    unfolding run
+    one-more p now w true c d ih i = dead _ _ _
+    one-more p now w false c d ih i = row p c d now w ih i
+
+    sound : (w : List Lines) → Holds w
+    unfolding run
+    sound [] now p i = runs-out p now
+    sound (l ∷ w) now p i = one-more p now w (l .atn) (l .clk) (l .«data») (sound w) i
+
+    -- A plan that keeps the rules gives the ticks, and its bytes and ticks are these.
+    pub record Planned (w : List Lines) (l : List Byte) : Type 0 where
+      pub plan : Plan
+      pub rules : PlanRules L plan
+      pub tidy : Tidy (plan .sending)
+      pub gives : w ≡ map shows (track plan)
+      pub bytes : l ≡ planBytes plan
+
+    planned : (w : List Lines) (l : List Byte) → From Start 0 w l → Planned w l
+    planned w l f =
+        let a = f .shape in
+        let h = many (a .after .1) in
+        let x = many (h .after) in
+        let s = x .after in
+        record
+          { plan = record { found = a .count; hold = h .count; wait = x .count; sending = s .plan };
+            rules = record { found = omega (arith, a .ends, a .after .0); hold = h .some; wait = x .some; sending = s .rules };
+            tidy = s .tidy;
+            gives =
+              f .gives
+              ∙ ap (map shows)
+                  (a .splits
+                  ∙ ap (λ y. replicate (a .count) clock ++ y)
+                      (h .splits
+                      ∙ ap (λ y. replicate (h .count) clockHeld ++ y) (x .splits ∙ ap (λ y. replicate (x .count) held ++ y) (s .is))));
+            bytes = s .bytes ∙ ap (λ (e : ℕ). sendingBytes e (s .plan)) (omega (arith, a .ends, h .ends, x .ends)) }
+
+    -- A complete run is given by a plan whose bytes and ticks are the judge's.
+    pub back : (w : List Lines) → run L 0 Start w .verdict ≡ Complete → Planned w (run L 0 Start w .bytes)
+    back w e = planned w _ (sound w 0 Start (omega arith) .prove (subst⁻¹ IsComplete e tt))

@@ -1,0 +1,102 @@
+-- Demand 3 over tick lists, for all times that are consistent, and at document 01's own. Assumes nothing.
+use Prim.Native.Nat.{ℕ}
+use native.Mathlib.Omega.{arith}
+use mathlib.Core.Path.{_≡_, refl, sym, ap, ap₂, _∙_, subst, subst⁻¹}
+use mathlib.Core.Logic.{_↔_}
+use mathlib.Core.Bool.{Bool, _||_}
+use mathlib.Core.List.{List, [], _∷_, map}
+use Rattle.transfer.specs.Limits.{standardLimits}
+use Rattle.transfer.specs.Outcome.{Outcome, outcome}
+use Rattle.transfer.specs.Parties.{Pulls, pulls, track, planBytes}
+use Rattle.transfer.specs.Pair.{SenderPulls, senderPulls, receiverPulls, gives, values, Pair, SameOrLater, shown}
+use Rattle.transfer.specs.Demand3.{Consistent, CompleteWith, shownSender, shownReceiver, Explains, Explained, Demand3}
+use Rattle.transfer.specs.declared.limits.Limits.{Limits}
+use Rattle.transfer.specs.declared.lines.Lines.{Lines}
+use Rattle.transfer.specs.declared.phase.Byte.{Byte}
+use Rattle.transfer.specs.declared.verdict.Verdict.the-variants.{Complete}
+use Rattle.transfer.specs.declared.phase.Phase.the-variants.{Start}
+use Rattle.transfer.proofs.Run.{run, lines, outcome-is}
+use Rattle.transfer.proofs.Forward.{shows, CompleteBy, along}
+use Rattle.transfer.proofs.Backward.{Planned, back}
+use Rattle.transfer.proofs.Shown.{shows-plan}
+
+gives-shows : (js : List Pulls) → gives (map senderPulls js) (map receiverPulls js) ≡ map shows js
+gives-shows [] = refl
+gives-shows (pulls c s r ∷ js) = ap (λ x. lines c (r || s) ∷ x) (gives-shows js)
+
+same-values : (ledger other : List Byte) → SameOrLater ledger other → values ledger ≡ values other
+same-values [] [] h = refl
+same-values [] (b ∷ other) h = absurd h
+same-values (a ∷ ledger) [] h = absurd h
+same-values (a ∷ ledger) (b ∷ other) h = ap₂ (λ (v : ℕ) l. v ∷ l) (h .0) (same-values ledger other (h .3))
+
+module _ (L : Limits) (times : Consistent L) (w : List Lines) where
+  -- A pair that gives the ticks: they are complete with its bytes, and no tick of the ledger is later than the pair's.
+  reads : (string : List ℕ) (sender : List SenderPulls) (receiver : List Bool) (ticks : List Byte) → Explains L w string sender receiver ticks
+      → CompleteBy (outcome L w) ticks
+  reads string sender receiver ticks x =
+      let p = x .pair in
+      let given : map shows (track (p .plan)) ≡ w =
+            sym (gives-shows (track (p .plan))) ∙ sym (ap₂ gives (p .sends) (p .receives)) ∙ x .gives-it in
+      let bytes = subst⁻¹ (λ l. CompleteBy (run L 0 Start (map shows (track (p .plan)))) l) (p .ticks-are) (along L times (p .plan) (p .rules)) in
+      subst⁻¹ (λ o. CompleteBy o ticks) (outcome-is L w) (subst (λ v. CompleteBy (run L 0 Start v) ticks) given bytes)
+
+  -- A complete tick list is what a plan gives.
+  planned : outcome L w .verdict ≡ Complete → Planned L times w (outcome L w .bytes)
+  planned e =
+      subst⁻¹ (λ (o : Outcome). Planned L times w (o .bytes)) (outcome-is L w)
+        (back L times w (ap (λ (o : Outcome). o .verdict) (sym (outcome-is L w)) ∙ e))
+
+  shows-pair : (string : List ℕ) → CompleteWith L w string → Explains L w string (shownSender L w) (shownReceiver L w) (outcome L w .bytes)
+  shows-pair string c =
+      let p = planned (c .verdict) in
+      let e : shown (outcome L w .bytes) w ≡ track (p .plan) =
+            ap₂ shown (p .bytes) (p .gives) ∙ shows-plan L times (p .plan) (p .rules) (p .tidy) in
+      record
+        { pair =
+            record
+              { plan = p .plan;
+                rules = p .rules;
+                sends = ap (map senderPulls) e;
+                receives = ap (map receiverPulls) e;
+                string-is = sym (c .bytes) ∙ ap values (p .bytes);
+                ticks-are = p .bytes };
+          gives-it = gives-shows (shown (outcome L w .bytes) w) ∙ ap (map shows) e ∙ sym (p .gives) }
+
+  explained : (string : List ℕ) → CompleteWith L w string → Explained L w string
+  explained string c =
+      record { sender = shownSender L w; receiver = shownReceiver L w; ticks = outcome L w .bytes; explains = shows-pair string c }
+
+  complete : (string : List ℕ) → Explained L w string → CompleteWith L w string
+  complete string x =
+      let r = reads string (x .sender) (x .receiver) (x .ticks) (x .explains) in
+      let p = x .explains .pair in
+      record { verdict = r .verdict; bytes = same-values (outcome L w .bytes) (x .ticks) (r .ledger) ∙ ap values (p .ticks-are) ∙ sym (p .string-is) }
+
+  pub demand3 : Demand3 L w
+  demand3 =
+      record
+        { exactly = λ string. (explained string, complete string);
+          shown-pair = shows-pair;
+          earliest = λ string sender receiver ticks x. reads string sender receiver ticks x .ledger;
+          never = λ none e. none (values (outcome L w .bytes)) (explained _ (record { verdict = e; bytes = refl })) }
+
+pub standard-consistent : Consistent standardLimits
+standard-consistent =
+    record
+      { end-mark = omega arith;
+        end-mark-in-time = omega arith;
+        ready-for-data = omega arith;
+        acknowledge = omega arith;
+        acknowledges = omega arith;
+        timeout = omega arith;
+        set-up = omega arith;
+        valid = omega arith;
+        valids = omega arith;
+        keep = omega arith;
+        keep-take = omega arith;
+        keep-release = omega arith }
+
+-- Demand 3 with document 01's times.
+pub standard-demand3 : (w : List Lines) → Demand3 standardLimits w
+standard-demand3 w = demand3 standardLimits standard-consistent w

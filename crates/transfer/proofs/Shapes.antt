@@ -1,0 +1,189 @@
+-- What may follow in each phase of a run that ends complete, as ticks of both tracks: so many ticks of one kind, then a tick of another.
+-- Assumes nothing.
+use Prim.Native.Nat.{ℕ, zero, suc, _+_, _≤_, _<_}
+use native.Mathlib.Omega.{arith}
+use mathlib.Core.Path.{_≡_, refl, ap, _∙_}
+use mathlib.Core.Logic.{_⊎_, inl, inr}
+use mathlib.Core.Bool.{Bool, true, false}
+use mathlib.Core.List.{List, [], _∷_, _++_, map}
+use lib.ListN.{length, replicate}
+use Rattle.transfer.specs.Phases.{withBit}
+use Rattle.transfer.specs.Parties.{Pulls, pulls, nobody, held, clock, clockHeld, clockKept, sets, offers, lastOf, Sending, more, last, sendingTrack, sendingBytes}
+use Rattle.transfer.specs.Rules.{SendingRules}
+use Rattle.transfer.specs.declared.limits.Limits.{Limits}
+use Rattle.transfer.specs.declared.phase.Byte.{Byte}
+use Rattle.transfer.specs.declared.phase.Phase.{Phase}
+use Rattle.transfer.specs.declared.phase.Phase.the-variants.{Start, FirstHold, Hold, ReadyToSend, ReadyForData, Acknowledgement, Acknowledged, SetUp, Valid, Open, Carried, End, Decided}
+
+-- The rest of the tracks from a tick on, and the bytes that are handed over in it.
+abbrev pub Rest : Type 1
+Rest = (now : ℕ) → List Pulls → List Byte → Type 0
+
+-- So many ticks of p, then K.
+pub record Stays (p : Pulls) (K : Rest) (now : ℕ) (js : List Pulls) (l : List Byte) : Type 0 where
+  pub count : ℕ
+  pub till : ℕ
+  pub rest : List Pulls
+  pub ends : now + count ≡ till
+  pub splits : js ≡ replicate count p ++ rest
+  pub after : K till rest l
+
+-- One tick of p, then K.
+pub record First (p : Pulls) (K : Rest) (now : ℕ) (js : List Pulls) (l : List Byte) : Type 0 where
+  pub rest : List Pulls
+  pub splits : js ≡ p ∷ rest
+  pub after : K (suc now) rest l
+
+-- One tick of p or more, then K.
+pub record Many (p : Pulls) (K : Rest) (now : ℕ) (js : List Pulls) (l : List Byte) : Type 0 where
+  pub count : ℕ
+  pub till : ℕ
+  pub rest : List Pulls
+  pub some : 1 ≤ count
+  pub ends : now + count ≡ till
+  pub splits : js ≡ replicate count p ++ rest
+  pub after : K till rest l
+
+module _ {p : Pulls} {K : Rest} {now : ℕ} {js : List Pulls} {l : List Byte} where
+  pub leaves : K now js l → Stays p K now js l
+  leaves k = record { count = 0; till = now; rest = js; ends = omega arith; splits = refl; after = k }
+
+  pub stay : Stays p K (suc now) js l → Stays p K now (p ∷ js) l
+  stay s =
+      record
+        { count = suc (s .count);
+          till = s .till;
+          rest = s .rest;
+          ends = omega (arith, s .ends);
+          splits = ap (λ x. p ∷ x) (s .splits);
+          after = s .after }
+
+  pub one : K (suc now) js l → First p K now (p ∷ js) l
+  one k = record { rest = js; splits = refl; after = k }
+
+  pub many : First p (Stays p K) now js l → Many p K now js l
+  many f =
+      let s = f .after in
+      record
+        { count = suc (s .count);
+          till = s .till;
+          rest = s .rest;
+          some = omega arith;
+          ends = omega (arith, s .ends);
+          splits = f .splits ∙ ap (λ x. p ∷ x) (s .splits);
+          after = s .after }
+
+  pub joined : First p (Stays p K) now js l → Stays p K now js l
+  joined f =
+      let s = many f in
+      record { count = s .count; till = s .till; rest = s .rest; ends = s .ends; splits = s .splits; after = s .after }
+
+-- A plan in which the sender has let go when the receiver takes.
+abbrev pub Tidy : Sending → Type 0
+Tidy (more gap f rest) = (f .let-go ≤ f .take) × Tidy rest
+Tidy (last gap acknowledgement response f silence) = f .let-go ≤ f .take
+
+module _ (L : Limits) where
+  -- The rest is what a plan that keeps the rules sends from here on.
+  pub record Sends (now : ℕ) (js : List Pulls) (l : List Byte) : Type 0 where
+    pub plan : Sending
+    pub rules : SendingRules L plan
+    pub tidy : Tidy plan
+    pub is : js ≡ sendingTrack plan
+    pub bytes : l ≡ sendingBytes now plan
+
+  -- E
+  pub record Silent (now : ℕ) (js : List Pulls) (l : List Byte) : Type 0 where
+    pub count : ℕ
+    pub is : js ≡ replicate count nobody
+    pub bytes : l ≡ []
+
+  -- After C: the end, or a further byte.
+  abbrev pub AfterC : (ended : Bool) → Rest
+  AfterC true now js l = First nobody Silent now js l
+  AfterC false now js l = Sends now js l
+
+  -- The release of CLK that hands b over, `earliest` or later, and C.
+  pub record HandsOver (b : Byte) (mark : Bool) (earliest : ℕ) (now : ℕ) (js : List Pulls) (l : List Byte) : Type 0 where
+    pub late : earliest ≤ now
+    pub others : List Byte
+    pub hands : l ≡ b ∷ others
+    pub after : First held (Stays held (AfterC mark)) now js others
+
+  -- B
+  abbrev pub Holds : Byte → (mark : Bool) → Rest
+  Holds b mark = Stays clockHeld (HandsOver b mark (b .take + L .«between_bytes»))
+
+  -- Handover
+  abbrev pub Opened : (mark : Bool) (value since let-go : ℕ) → Rest
+  Opened mark value since let-go =
+      Stays clock
+        (λ now js l.
+          (now ≤ since + L .«take_latest»)
+          × First clockHeld (Holds (record { value = value; «let_go» = let-go; take = now }) mark) now js l)
+
+  abbrev pub Carries : (mark : Bool) (value since : ℕ) → Rest
+  Carries mark value since now js l =
+      Stays clockKept (λ now js l. (now ≤ since + L .«keep_most») × First clock (Opened mark value since now) now js l) now js l
+      ⊎ Stays clockHeld
+          (HandsOver (record { value = value; «let_go» = since + 1; take = since + 1 }) mark (suc (since + L .«between_bytes»)))
+          now js l
+
+  pub data Handover (mark bit8 : Bool) (value now : ℕ) (js : List Pulls) (l : List Byte) : Type 0 where
+    opens : First clock (Opened mark value now now) now js l → Handover mark bit8 value now js l
+    carries : bit8 ≡ true → First clockKept (Carries mark value now) now js l → Handover mark bit8 value now js l
+
+  -- Bits
+  abbrev pub ValidTicks : (since : ℕ) (bit : Bool) → (Bool → Rest) → Rest
+  ValidTicks since bit K =
+      Stays (offers bit) (λ now js l. (since + L .«valid_least» ≤ now) × (now ≤ since + L .«valid_most») × K bit now js l)
+
+  pub record SetUpTicks (since : ℕ) (d : Bool) (K : Bool → Rest) (now : ℕ) (js : List Pulls) (l : List Byte) : Type 0 where
+    pub pulled : List Bool
+    pub till : ℕ
+    pub rest : List Pulls
+    pub ends : now + length pulled ≡ till
+    pub fits : till ≤ since + L .«set_up_most»
+    pub splits : js ≡ map sets pulled ++ rest
+    pub after : First (offers (lastOf d pulled)) (ValidTicks till (lastOf d pulled) K) till rest l
+
+  -- `left` bits after those that make `value`, of which the last was `bit`; then the handover.
+  abbrev pub Bits : (mark : Bool) (left value : ℕ) (bit : Bool) → Rest
+  Bits mark zero value bit now js l = Handover mark bit value now js l
+  Bits mark (suc left) value bit now js l =
+      (d : Bool) × First (sets d) (SetUpTicks now d (λ c. Bits mark left (withBit value c) c)) now js l
+
+  -- G, F and D
+  abbrev pub Responds : (since : ℕ) → Rest
+  Responds since = Stays nobody (λ now js l. (now ≤ since + L .response) × Bits true 8 0 false now js l)
+
+  abbrev pub Acknowledges : (since : ℕ) → Rest
+  Acknowledges since =
+      Stays held
+        (λ now js l.
+          (since + L .«acknowledge_least» ≤ now) × (now ≤ since + L .«acknowledge_most») × First nobody (Responds now) now js l)
+
+  -- What ends D: the CLK pull of a plain byte, or the acknowledgement of an end mark.
+  abbrev pub AfterD : (since : ℕ) → Rest
+  AfterD since now js l =
+      ((now < since + L .«end_mark») × Bits false 8 0 false now js l)
+      ⊎ ((since + L .«end_mark» ≤ now) × (now ≤ since + L .«end_mark_latest») × First held (Acknowledges now) now js l)
+
+  -- B before any byte
+  abbrev pub FirstHolds : Rest
+  FirstHolds = Stays clockHeld (First held (Stays held Sends))
+
+  abbrev pub Shape : Phase → Rest
+  Shape Start = Stays clock (λ now js l. (now ≤ L .presence) × First clockHeld FirstHolds now js l)
+  Shape FirstHold = FirstHolds
+  Shape (Hold byte mark) = Holds byte mark
+  Shape (ReadyToSend any ended) = Stays held (AfterC ended)
+  Shape (ReadyForData any since) = Stays nobody (AfterD since)
+  Shape (Acknowledgement any ready since) = Acknowledges since
+  Shape (Acknowledged any ready since) = Responds since
+  Shape (SetUp mark left value since d) = SetUpTicks since d (λ c. Bits mark left (withBit value c) c)
+  Shape (Valid mark left value since bit) = ValidTicks since bit (λ c. Bits mark left (withBit value c) c)
+  Shape (Open mark value since let-go) = Opened mark value since let-go
+  Shape (Carried mark value since) = Carries mark value since
+  Shape (End finish) = Silent
+  Shape (Decided fault) = λ now js l. ⊥
