@@ -103,20 +103,22 @@ module _ (L : Limits) where
     goes : ((js : List Pulls) (l : List Byte) → Shape L q (suc now) js l → Shape L p now (j ∷ js) l)
         → Sound (From q (suc now) w) o → Sound (From p now (shows j ∷ w)) o
     goes f s =
-        record
-          { prove =
+        record {
+          prove =
               λ h.
-                let r = s .prove h in
-                record { js = j ∷ r .js; gives = ap (λ x. shows j ∷ x) (r .gives); shape = f (r .js) (o .bytes) (r .shape) } }
+              let r = s .prove h in
+              record { js = j ∷ r .js; gives = ap (λ x. shows j ∷ x) (r .gives); shape = f (r .js) (o .bytes) (r .shape) };
+        }
 
     hands : (b : Byte) → ((js : List Pulls) (l : List Byte) → Shape L q (suc now) js l → Shape L p now (j ∷ js) (b ∷ l))
         → Sound (From q (suc now) w) o → Sound (From p now (shows j ∷ w)) (give b o)
     hands b f s =
-        record
-          { prove =
+        record {
+          prove =
               λ h.
-                let r = s .prove h in
-                record { js = j ∷ r .js; gives = ap (λ x. shows j ∷ x) (r .gives); shape = f (r .js) (o .bytes) (r .shape) } }
+              let r = s .prove h in
+              record { js = j ∷ r .js; gives = ap (λ x. shows j ∷ x) (r .gives); shape = f (r .js) (o .bytes) (r .shape) };
+        }
 
   abbrev Holds : List Lines → Type 0
   Holds w = (now : ℕ) (p : Phase) → InTime p now → Sound (From p now w) (run L now p w)
@@ -149,9 +151,9 @@ module _ (L : Limits) where
   row-hold b m true true now w ih i = goes clockHeld (Hold b m) (Hold b m) now w _ (λ js l h. stay h) (ih (suc now) (Hold b m) tt)
   row-hold b m false true now w ih i =
       unless-below _ _ _ _ _ _ _
-        (λ late.
-          hands held (Hold b m) (ReadyToSend true m) now w _ b
-            (λ js l h. leaves (record { late = late; others = l; hands = refl; after = one h })) (ih (suc now) (ReadyToSend true m) tt))
+      (λ late.
+      hands held (Hold b m) (ReadyToSend true m) now w _ b
+      (λ js l h. leaves (record { late = late; others = l; hands = refl; after = one h })) (ih (suc now) (ReadyToSend true m) tt))
   row-hold b m true false now w ih i = dead _ _ _
   row-hold b m false false now w ih i = dead _ _ _
 
@@ -160,14 +162,14 @@ module _ (L : Limits) where
   row-acknowledgement any ready s true d now w ih i = dead _ _ _
   row-acknowledgement any ready s false true now w ih i =
       if-below _ _ _ _ _ _ _
-        (λ a.
-          goes held (Acknowledgement any ready s) (Acknowledgement any ready s) now w _ (λ js l h. stay h)
-            (ih (suc now) (Acknowledgement any ready s) a))
+      (λ a.
+      goes held (Acknowledgement any ready s) (Acknowledgement any ready s) now w _ (λ js l h. stay h)
+      (ih (suc now) (Acknowledgement any ready s) a))
   row-acknowledgement any ready s false false now w ih i =
       unless-below _ _ _ _ _ _ _
-        (λ a.
-          goes nobody (Acknowledgement any ready s) (Acknowledged any ready now) now w _ (λ js l h. leaves (a, i, one h))
-            (ih (suc now) (Acknowledged any ready now) tt))
+      (λ a.
+      goes nobody (Acknowledgement any ready s) (Acknowledged any ready now) now w _ (λ js l h. leaves (a, i, one h))
+      (ih (suc now) (Acknowledged any ready now) tt))
 
   row-end : (f : ℕ) (c d : Bool) → Row (End f) c d
   unfolding next
@@ -175,7 +177,7 @@ module _ (L : Limits) where
   row-end f false true now w ih i = dead _ _ _
   row-end f false false now w ih i =
       goes nobody (End f) (End f) now w _
-        (λ js l h. record { count = suc (h .count); is = ap (λ x. nobody ∷ x) (h .is); bytes = h .bytes }) (ih (suc now) (End f) tt)
+      (λ js l h. record { count = suc (h .count); is = ap (λ x. nobody ∷ x) (h .is); bytes = h .bytes }) (ih (suc now) (End f) tt)
 
   row-open : (m : Bool) (v s l : ℕ) (c d : Bool) → Row (Open m v s l) c d
   unfolding next
@@ -196,74 +198,76 @@ module _ (L : Limits) where
             → From (Carried m v s) now (lines true true ∷ w) l
         by-shape l js e (inl h) = record { js = clockKept ∷ js; gives = ap (λ x. lines true true ∷ x) e; shape = inl (stay h) }
         by-shape l js e (inr h) = record { js = clockHeld ∷ js; gives = ap (λ x. lines true true ∷ x) e; shape = inr (stay h) }
+
         on : (l : List Byte) → From (Carried m v s) (suc now) w l → From (Carried m v s) now (lines true true ∷ w) l
         on l r = by-shape l (r .js) (r .gives) (r .shape)
     row-carried m v s true false now w ih i =
         if-upTo _ _ _ _ _ _ _
-          (λ a.
-            goes clock (Carried m v s) (Open m v s now) now w _ (λ js l h. inl (leaves (a, one h)))
-              (ih (suc now) (Open m v s now) (omega (arith, times .keep-take))))
+        (λ a.
+        goes clock (Carried m v s) (Open m v s now) now w _ (λ js l h. inl (leaves (a, one h)))
+        (ih (suc now) (Open m v s now) (omega (arith, times .keep-take))))
     row-carried m v s false true now w ih i =
         unless-upTo _ _ _ _ _ _ _
-          (λ late.
-            hands held (Carried m v s) (ReadyToSend true m) now w _ (record { value = v; «let_go» = s + 1; take = s + 1 })
-              (λ js l h. inr (leaves (record { late = late; others = l; hands = refl; after = one h }))) (ih (suc now) (ReadyToSend true m) tt))
+        (λ late.
+        hands held (Carried m v s) (ReadyToSend true m) now w _ (record { value = v; «let_go» = s + 1; take = s + 1 })
+        (λ js l h. inr (leaves (record { late = late; others = l; hands = refl; after = one h }))) (ih (suc now) (ReadyToSend true m) tt))
 
     row-ready-for-data : (any : Bool) (s : ℕ) (c d : Bool) → Row (ReadyForData any s) c d
     unfolding next
     row-ready-for-data any s true d now w ih i =
         if-below _ _ _ _ _ _ _
-          (λ a.
-            goes (sets d) (ReadyForData any s) (SetUp false 7 0 now d) now w _ (λ js l h. leaves (inl (a, (d, one h))))
-              (ih (suc now) (SetUp false 7 0 now d) (omega (arith, times .set-up))))
+        (λ a.
+        goes (sets d) (ReadyForData any s) (SetUp false 7 0 now d) now w _ (λ js l h. leaves (inl (a, (d, one h))))
+        (ih (suc now) (SetUp false 7 0 now d) (omega (arith, times .set-up))))
     row-ready-for-data any s false true now w ih i =
         unless-below _ _ _ _ _ _ _
-          (λ a.
-            goes held (ReadyForData any s) (Acknowledgement any s now) now w _ (λ js l h. leaves (inr (a, i, one h)))
-              (ih (suc now) (Acknowledgement any s now) (omega (arith, times .acknowledge, times .acknowledges))))
+        (λ a.
+        goes held (ReadyForData any s) (Acknowledgement any s now) now w _ (λ js l h. leaves (inr (a, i, one h)))
+        (ih (suc now) (Acknowledgement any s now) (omega (arith, times .acknowledge, times .acknowledges))))
     row-ready-for-data any s false false now w ih i =
         if-below _ _ _ _ _ _ _
-          (λ a. goes nobody (ReadyForData any s) (ReadyForData any s) now w _ (λ js l h. stay h) (ih (suc now) (ReadyForData any s) a))
+        (λ a. goes nobody (ReadyForData any s) (ReadyForData any s) now w _ (λ js l h. stay h) (ih (suc now) (ReadyForData any s) a))
 
     row-acknowledged : (any : Bool) (ready s : ℕ) (c d : Bool) → Row (Acknowledged any ready s) c d
     unfolding next
     row-acknowledged any ready s false true now w ih i = dead _ _ _
     row-acknowledged any ready s true d now w ih i =
         if-upTo _ _ _ _ _ _ _
-          (λ a.
-            goes (sets d) (Acknowledged any ready s) (SetUp true 7 0 now d) now w _ (λ js l h. leaves (a, (d, one h)))
-              (ih (suc now) (SetUp true 7 0 now d) (omega (arith, times .set-up))))
+        (λ a.
+        goes (sets d) (Acknowledged any ready s) (SetUp true 7 0 now d) now w _ (λ js l h. leaves (a, (d, one h)))
+        (ih (suc now) (SetUp true 7 0 now d) (omega (arith, times .set-up))))
     row-acknowledged false ready s false false now w ih i =
         if-below _ _ _ _ _ _ _
-          (λ a. goes nobody (Acknowledged false ready s) (Acknowledged false ready s) now w _ (λ js l h. stay h) (ih (suc now) (Acknowledged false ready s) tt))
+        (λ a. goes nobody (Acknowledged false ready s) (Acknowledged false ready s) now w _ (λ js l h. stay h) (ih (suc now) (Acknowledged false ready s) tt))
     row-acknowledged true ready s false false now w ih i =
         if-below _ _ _ _ _ _ _
-          (λ a. goes nobody (Acknowledged true ready s) (Acknowledged true ready s) now w _ (λ js l h. stay h) (ih (suc now) (Acknowledged true ready s) tt))
+        (λ a. goes nobody (Acknowledged true ready s) (Acknowledged true ready s) now w _ (λ js l h. stay h) (ih (suc now) (Acknowledged true ready s) tt))
 
     -- The last set-up tick shows b, and the first valid tick too.
     to-valid : (m : Bool) (left v s : ℕ) (b : Bool) (now : ℕ) (w : List Lines) → Holds w → InTime (SetUp m left v s b) now
         → Sound (From (SetUp m left v s b) now (lines false b ∷ w)) (run L (suc now) (Valid m left v now b) w)
     to-valid m left v s b now w ih i =
         goes (offers b) (SetUp m left v s b) (Valid m left v now b) now w _
-          (λ js l h. record { pulled = []; till = now; rest = offers b ∷ js; ends = omega arith; fits = i; splits = refl; after = one h })
-          (ih (suc now) (Valid m left v now b) (omega (arith, times .valid, times .valids)))
+        (λ js l h. record { pulled = []; till = now; rest = offers b ∷ js; ends = omega arith; fits = i; splits = refl; after = one h })
+        (ih (suc now) (Valid m left v now b) (omega (arith, times .valid, times .valids)))
 
     row-set-up : (m : Bool) (left v s : ℕ) (b c d : Bool) → Row (SetUp m left v s b) c d
     unfolding next same
     row-set-up m left v s b true d now w ih i =
         if-below _ _ _ _ _ _ _
-          (λ a.
-            goes (sets d) (SetUp m left v s b) (SetUp m left v s d) now w _
-              (λ js l h.
-                record
-                  { pulled = d ∷ h .pulled;
-                    till = h .till;
-                    rest = h .rest;
-                    ends = omega (arith, h .ends);
-                    fits = h .fits;
-                    splits = ap (λ x. sets d ∷ x) (h .splits);
-                    after = h .after })
-              (ih (suc now) (SetUp m left v s d) a))
+        (λ a.
+        goes (sets d) (SetUp m left v s b) (SetUp m left v s d) now w _
+        (λ js l h.
+        record {
+          pulled = d ∷ h .pulled;
+          till = h .till;
+          rest = h .rest;
+          ends = omega (arith, h .ends);
+          fits = h .fits;
+          splits = ap (λ x. sets d ∷ x) (h .splits);
+          after = h .after;
+        })
+        (ih (suc now) (SetUp m left v s d) a))
     row-set-up m left v s true false true now w ih i = to-valid m left v s true now w ih i
     row-set-up m left v s false false false now w ih i = to-valid m left v s false now w ih i
     row-set-up m left v s true false false now w ih i = dead _ _ _
@@ -271,10 +275,10 @@ module _ (L : Limits) where
 
     on-valid : (m : Bool) (left v s : ℕ) (b : Bool) (now : ℕ) (w : List Lines) → Holds w → InTime (Valid m left v s b) now
         → Sound (From (Valid m left v s b) now (lines false b ∷ w))
-            (onward (if below (L .«valid_most») s now then Go (Valid m left v s b) else Stop ClockStall) now (λ (q : Phase). run L (suc now) q w))
+        (onward (if below (L .«valid_most») s now then Go (Valid m left v s b) else Stop ClockStall) now (λ (q : Phase). run L (suc now) q w))
     on-valid m left v s b now w ih i =
         if-below _ _ _ _ _ _ _
-          (λ a. goes (offers b) (Valid m left v s b) (Valid m left v s b) now w _ (λ js l h. stay h) (ih (suc now) (Valid m left v s b) a))
+        (λ a. goes (offers b) (Valid m left v s b) (Valid m left v s b) now w _ (λ js l h. stay h) (ih (suc now) (Valid m left v s b) a))
 
     row-valid : (m : Bool) (left v s : ℕ) (b c d : Bool) → Row (Valid m left v s b) c d
     unfolding next same afterBit handover
@@ -284,19 +288,19 @@ module _ (L : Limits) where
     row-valid m left v s false false true now w ih i = dead _ _ _
     row-valid m (suc left) v s b true d now w ih i =
         unless-below _ _ _ _ _ _ _
-          (λ a.
-            goes (sets d) (Valid m (suc left) v s b) (SetUp m left (withBit v b) now d) now w _ (λ js l h. leaves (a, i, (d, one h)))
-              (ih (suc now) (SetUp m left (withBit v b) now d) (omega (arith, times .set-up))))
+        (λ a.
+        goes (sets d) (Valid m (suc left) v s b) (SetUp m left (withBit v b) now d) now w _ (λ js l h. leaves (a, i, (d, one h)))
+        (ih (suc now) (SetUp m left (withBit v b) now d) (omega (arith, times .set-up))))
     row-valid m zero v s b true false now w ih i =
         unless-below _ _ _ _ _ _ _
-          (λ a.
-            goes clock (Valid m 0 v s b) (Open m (withBit v b) now now) now w _ (λ js l h. leaves (a, i, opens (one h)))
-              (ih (suc now) (Open m (withBit v b) now now) (omega (arith, times .keep-take))))
+        (λ a.
+        goes clock (Valid m 0 v s b) (Open m (withBit v b) now now) now w _ (λ js l h. leaves (a, i, opens (one h)))
+        (ih (suc now) (Open m (withBit v b) now now) (omega (arith, times .keep-take))))
     row-valid m zero v s true true true now w ih i =
         unless-below _ _ _ _ _ _ _
-          (λ a.
-            goes clockKept (Valid m 0 v s true) (Carried m (withBit v true) now) now w _ (λ js l h. leaves (a, i, carries refl (one h)))
-              (ih (suc now) (Carried m (withBit v true) now) tt))
+        (λ a.
+        goes clockKept (Valid m 0 v s true) (Carried m (withBit v true) now) now w _ (λ js l h. leaves (a, i, carries refl (one h)))
+        (ih (suc now) (Carried m (withBit v true) now) tt))
     row-valid m zero v s false true true now w ih i = unless-below _ _ _ _ _ _ _ (λ a. dead _ _ _)
 
     row-ready-to-send : (any ended c d : Bool) → Row (ReadyToSend any ended) c d
@@ -308,7 +312,7 @@ module _ (L : Limits) where
         goes nobody (ReadyToSend any true) (End now) now w _ (λ js l h. leaves (one h)) (ih (suc now) (End now) tt)
     row-ready-to-send any false false false now w ih i =
         goes nobody (ReadyToSend any false) (ReadyForData any now) now w _ (λ js l h. leaves (sends L times now (nobody ∷ js) l (one h)))
-          (ih (suc now) (ReadyForData any now) (omega (arith, times .ready-for-data)))
+        (ih (suc now) (ReadyForData any now) (omega (arith, times .ready-for-data)))
 
     row : (p : Phase) (c d : Bool) → Row p c d
     unfolding next
@@ -370,18 +374,19 @@ module _ (L : Limits) where
         let h = many (a .after .1) in
         let x = many (h .after) in
         let s = x .after in
-        record
-          { plan = record { found = a .count; hold = h .count; wait = x .count; sending = s .plan };
-            rules = record { found = omega (arith, a .ends, a .after .0); hold = h .some; wait = x .some; sending = s .rules };
-            tidy = s .tidy;
-            gives =
+        record {
+          plan = record { found = a .count; hold = h .count; wait = x .count; sending = s .plan };
+          rules = record { found = omega (arith, a .ends, a .after .0); hold = h .some; wait = x .some; sending = s .rules };
+          tidy = s .tidy;
+          gives =
               f .gives
               ∙ ap (map shows)
-                  (a .splits
-                  ∙ ap (λ y. replicate (a .count) clock ++ y)
-                      (h .splits
-                      ∙ ap (λ y. replicate (h .count) clockHeld ++ y) (x .splits ∙ ap (λ y. replicate (x .count) held ++ y) (s .is))));
-            bytes = s .bytes ∙ ap (λ (e : ℕ). sendingBytes e (s .plan)) (omega (arith, a .ends, h .ends, x .ends)) }
+              (a .splits
+              ∙ ap (λ y. replicate (a .count) clock ++ y)
+              (h .splits
+              ∙ ap (λ y. replicate (h .count) clockHeld ++ y) (x .splits ∙ ap (λ y. replicate (x .count) held ++ y) (s .is))));
+          bytes = s .bytes ∙ ap (λ (e : ℕ). sendingBytes e (s .plan)) (omega (arith, a .ends, h .ends, x .ends));
+        }
 
     -- A complete run is given by a plan whose bytes and ticks are the judge's.
     pub back : (w : List Lines) → run L 0 Start w .verdict ≡ Complete → Planned w (run L 0 Start w .bytes)

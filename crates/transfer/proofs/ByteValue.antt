@@ -33,13 +33,27 @@ withBit-is v false = omega arith
 
 octet : (a b c d e f g h : Bool)
     → withBit (withBit (withBit (withBit (withBit (withBit (withBit (withBit 0 a) b) c) d) e) f) g) h
-      ≡ (if a then 1 else 0) + ((if b then 2 else 0) + ((if c then 4 else 0) + ((if d then 8 else 0)
-      + ((if e then 16 else 0) + ((if f then 32 else 0) + ((if g then 64 else 0) + ((if h then 128 else 0) + 0)))))))
+    ≡ (if a then 1 else 0) + ((if b then 2 else 0) + ((if c then 4 else 0) + ((if d then 8 else 0)
+    + ((if e then 16 else 0) + ((if f then 32 else 0) + ((if g then 64 else 0) + ((if h then 128 else 0) + 0)))))))
 octet a b c d e f g h =
-    rw
-      (withBit-is _ h, withBit-is _ g, withBit-is _ f, withBit-is _ e, withBit-is _ d, withBit-is _ c, withBit-is _ b, withBit-is 0 a,
-      weighs 2 b, weighs 4 c, weighs 8 d, weighs 16 e, weighs 32 f, weighs 64 g, weighs 128 h)
-      (omega (arith, one-most a, one-most b, one-most c, one-most d, one-most e, one-most f, one-most g, one-most h))
+    rw (
+      withBit-is _ h,
+      withBit-is _ g,
+      withBit-is _ f,
+      withBit-is _ e,
+      withBit-is _ d,
+      withBit-is _ c,
+      withBit-is _ b,
+      withBit-is 0 a,
+      weighs 2 b,
+      weighs 4 c,
+      weighs 8 d,
+      weighs 16 e,
+      weighs 32 f,
+      weighs 64 g,
+      weighs 128 h,
+    )
+    (omega (arith, one-most a, one-most b, one-most c, one-most d, one-most e, one-most f, one-most g, one-most h))
 
 pub eight-bits : (xs : List Bit) → length xs ≡ 8 → takenIn 0 xs ≡ valueOf 1 xs
 eight-bits (a ∷ b ∷ c ∷ d ∷ e ∷ f ∷ g ∷ h ∷ []) k = octet (bit a) (bit b) (bit c) (bit d) (bit e) (bit f) (bit g) (bit h)

@@ -37,7 +37,7 @@ module _ (L : Limits) (times : Consistent L) (w : List Lines) where
   reads string sender receiver ticks x =
       let p = x .pair in
       let given : map shows (track (p .plan)) ≡ w =
-            sym (gives-shows (track (p .plan))) ∙ sym (ap₂ gives (p .sends) (p .receives)) ∙ x .gives-it in
+      sym (gives-shows (track (p .plan))) ∙ sym (ap₂ gives (p .sends) (p .receives)) ∙ x .gives-it in
       let bytes = subst⁻¹ (λ l. CompleteBy (run L 0 Start (map shows (track (p .plan)))) l) (p .ticks-are) (along L times (p .plan) (p .rules)) in
       subst⁻¹ (λ o. CompleteBy o ticks) (outcome-is L w) (subst (λ v. CompleteBy (run L 0 Start v) ticks) given bytes)
 
@@ -45,23 +45,25 @@ module _ (L : Limits) (times : Consistent L) (w : List Lines) where
   planned : outcome L w .verdict ≡ Complete → Planned L times w (outcome L w .bytes)
   planned e =
       subst⁻¹ (λ (o : Outcome). Planned L times w (o .bytes)) (outcome-is L w)
-        (back L times w (ap (λ (o : Outcome). o .verdict) (sym (outcome-is L w)) ∙ e))
+      (back L times w (ap (λ (o : Outcome). o .verdict) (sym (outcome-is L w)) ∙ e))
 
   shows-pair : (string : List ℕ) → CompleteWith L w string → Explains L w string (shownSender L w) (shownReceiver L w) (outcome L w .bytes)
   shows-pair string c =
       let p = planned (c .verdict) in
       let e : shown (outcome L w .bytes) w ≡ track (p .plan) =
-            ap₂ shown (p .bytes) (p .gives) ∙ shows-plan L times (p .plan) (p .rules) (p .tidy) in
-      record
-        { pair =
-            record
-              { plan = p .plan;
-                rules = p .rules;
-                sends = ap (map senderPulls) e;
-                receives = ap (map receiverPulls) e;
-                string-is = sym (c .bytes) ∙ ap values (p .bytes);
-                ticks-are = p .bytes };
-          gives-it = gives-shows (shown (outcome L w .bytes) w) ∙ ap (map shows) e ∙ sym (p .gives) }
+      ap₂ shown (p .bytes) (p .gives) ∙ shows-plan L times (p .plan) (p .rules) (p .tidy) in
+      record {
+        pair =
+            record {
+              plan = p .plan;
+              rules = p .rules;
+              sends = ap (map senderPulls) e;
+              receives = ap (map receiverPulls) e;
+              string-is = sym (c .bytes) ∙ ap values (p .bytes);
+              ticks-are = p .bytes;
+            };
+        gives-it = gives-shows (shown (outcome L w .bytes) w) ∙ ap (map shows) e ∙ sym (p .gives);
+      }
 
   explained : (string : List ℕ) → CompleteWith L w string → Explained L w string
   explained string c =
@@ -75,27 +77,29 @@ module _ (L : Limits) (times : Consistent L) (w : List Lines) where
 
   pub demand3 : Demand3 L w
   demand3 =
-      record
-        { exactly = λ string. (explained string, complete string);
-          shown-pair = shows-pair;
-          earliest = λ string sender receiver ticks x. reads string sender receiver ticks x .ledger;
-          never = λ none e. none (values (outcome L w .bytes)) (explained _ (record { verdict = e; bytes = refl })) }
+      record {
+        exactly = λ string. (explained string, complete string);
+        shown-pair = shows-pair;
+        earliest = λ string sender receiver ticks x. reads string sender receiver ticks x .ledger;
+        never = λ none e. none (values (outcome L w .bytes)) (explained _ (record { verdict = e; bytes = refl }));
+      }
 
 pub standard-consistent : Consistent standardLimits
 standard-consistent =
-    record
-      { end-mark = omega arith;
-        end-mark-in-time = omega arith;
-        ready-for-data = omega arith;
-        acknowledge = omega arith;
-        acknowledges = omega arith;
-        timeout = omega arith;
-        set-up = omega arith;
-        valid = omega arith;
-        valids = omega arith;
-        keep = omega arith;
-        keep-take = omega arith;
-        keep-release = omega arith }
+    record {
+      end-mark = omega arith;
+      end-mark-in-time = omega arith;
+      ready-for-data = omega arith;
+      acknowledge = omega arith;
+      acknowledges = omega arith;
+      timeout = omega arith;
+      set-up = omega arith;
+      valid = omega arith;
+      valids = omega arith;
+      keep = omega arith;
+      keep-take = omega arith;
+      keep-release = omega arith;
+    }
 
 -- Demand 3 with document 01's times.
 pub standard-demand3 : (w : List Lines) → Demand3 standardLimits w

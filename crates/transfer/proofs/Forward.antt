@@ -100,7 +100,7 @@ module _ (L : Limits) where
   -- A, B and C, up to the first letting go.
   along-start : (found hold wait : ℕ) (js : List Pulls) → found ≤ L .presence → 1 ≤ hold → 1 ≤ wait
       → run L 0 Start (map shows (replicate found clock ++ (replicate hold clockHeld ++ (replicate wait held ++ js))))
-        ≡ run L (found + hold + wait) (ReadyToSend false false) (map shows js)
+      ≡ run L (found + hold + wait) (ReadyToSend false false) (map shows js)
   unfolding next
   along-start f h w js a b c =
       stays Start true false false f 0 _ (λ i x y. is-below _ _ _ _ _ (omega arith))
@@ -121,13 +121,13 @@ module _ (L : Limits) where
   -- One bit, from the tick after its first set-up tick `s` to its last valid tick.
   along-bit : (m : Bool) (left v s : ℕ) (x : Bit) (js : List Pulls) → 1 ≤ x .valid → BitRules L x
       → run L (suc s) (SetUp m left v s (x .first)) (map shows (map sets (x .others) ++ (replicate (x .valid) (offers (bit x)) ++ js)))
-        ≡ run L (s + suc (length (x .others) + x .valid)) (Valid m left v (suc s + length (x .others)) (bit x)) (map shows js)
+      ≡ run L (s + suc (length (x .others) + x .valid)) (Valid m left v (suc s + length (x .others)) (bit x)) (map shows js)
   unfolding next
   along-bit m left v s x js one rules =
       along-set-up m left v s (suc s) (x .first) (x .others) _ (omega (arith, rules .set-up))
       ∙ enters (SetUp m left v s (bit x)) (Valid m left v (suc s + length (x .others)) (bit x)) false (bit x) false (x .valid)
-          (suc s + length (x .others)) js one (is-same (bit x) _ _)
-          (λ i a b. is-same (bit x) _ _ ∙ is-below _ _ _ _ _ (omega (arith, rules .valid-most)))
+      (suc s + length (x .others)) js one (is-same (bit x) _ _)
+      (λ i a b. is-same (bit x) _ _ ∙ is-below _ _ _ _ _ (omega (arith, rules .valid-most)))
       ∙ at-tick _ _ (omega arith)
 
   -- The receiver holds DATA; the sender releases CLK, which hands the byte over; the receiver lets go.
@@ -141,7 +141,7 @@ module _ (L : Limits) where
 
   along-hold : (b : Byte) (m : Bool) (n k now : ℕ) (js : List Pulls) → b .take + L .«between_bytes» ≤ now + n → 1 ≤ k
       → run L now (Hold b m) (map shows (handoverTrack n 0 0 ++ (replicate k held ++ js)))
-        ≡ give b (run L (now + n + k) (ReadyToSend true m) (map shows js))
+      ≡ give b (run L (now + n + k) (ReadyToSend true m) (map shows js))
   unfolding next
   along-hold b m zero k now js h one =
       lets-go (Hold b m) b m k now js one (not-below _ _ _ _ _ (omega arith)) ∙ ap (give b) (at-tick _ _ (omega arith))
@@ -153,7 +153,7 @@ module _ (L : Limits) where
   -- Open, with the take t ticks ahead and the release of CLK n ticks ahead.
   along-open : (m : Bool) (v s l t n k now : ℕ) (js : List Pulls) → now + t ≤ s + L .«take_latest» → t < n → t + L .«between_bytes» ≤ n → 1 ≤ k
       → run L now (Open m v s l) (map shows (handoverTrack n 0 t ++ (replicate k held ++ js)))
-        ≡ give (record { value = v; «let_go» = l; take = now + t }) (run L (now + n + k) (ReadyToSend true m) (map shows js))
+      ≡ give (record { value = v; «let_go» = l; take = now + t }) (run L (now + n + k) (ReadyToSend true m) (map shows js))
   unfolding next
   along-open m v s l t zero k now js h a b one = absurd (omega arith)
   along-open m v s l zero (suc n) k now js h a b one =
@@ -177,61 +177,66 @@ module _ (L : Limits) where
   along-carried : (m : Bool) (v s t n l k now : ℕ) (js : List Pulls) → s < now → now + l ≤ s + L .«keep_most» → now + t ≤ s + L .«take_latest»
       → t < n → t + L .«between_bytes» ≤ n → 1 ≤ k
       → Hands (run L now (Carried m v s) (map shows (handoverTrack n l t ++ (replicate k held ++ js))))
-          (run L (now + n + k) (ReadyToSend true m) (map shows js)) (record { value = v; «let_go» = now + l; take = now + t })
+      (run L (now + n + k) (ReadyToSend true m) (map shows js)) (record { value = v; «let_go» = now + l; take = now + t })
   unfolding next
   along-carried m v s zero n l k now js h a b c d one =
-      record
-        { handed = record { value = v; «let_go» = s + 1; take = s + 1 };
-          is =
+      record {
+        handed = record { value = v; «let_go» = s + 1; take = s + 1 };
+        is =
             carried-on m v s n l now _
             ∙ lets-go (Carried m v s) (record { value = v; «let_go» = s + 1; take = s + 1 }) m k (now + n) js one (not-upTo _ _ _ _ _ (omega arith));
-          value = refl;
-          let-go = omega arith;
-          take = omega arith }
+        value = refl;
+        let-go = omega arith;
+        take = omega arith;
+      }
   along-carried m v s (suc t) zero l k now js h a b c d one = absurd (omega arith)
   along-carried m v s (suc t) (suc n) zero k now js h a b c d one =
-      record
-        { handed = record { value = v; «let_go» = now; take = suc now + t };
-          is =
+      record {
+        handed = record { value = v; «let_go» = now; take = suc now + t };
+        is =
             step now (Carried m v s) (Open m v s now) true false _ (is-upTo _ _ _ _ _ (omega arith))
             ∙ along-open m v s now t n k (suc now) js (omega arith) (omega arith) (omega arith) one
             ∙ ap (give (record { value = v; «let_go» = now; take = suc now + t })) (at-tick _ _ (omega arith));
-          value = refl;
-          let-go = omega arith;
-          take = omega arith }
+        value = refl;
+        let-go = omega arith;
+        take = omega arith;
+      }
   along-carried m v s (suc t) (suc n) (suc l) k now js h a b c d one =
       let r = along-carried m v s t n l k (suc now) js (omega arith) (omega arith) (omega arith) (omega arith) (omega arith) one in
-      record
-        { handed = r .handed;
-          is = step now (Carried m v s) (Carried m v s) true true _ refl ∙ r .is ∙ ap (give (r .handed)) (at-tick _ _ (omega arith));
-          value = r .value;
-          let-go = omega (arith, r .let-go);
-          take = omega (arith, r .take) }
+      record {
+        handed = r .handed;
+        is = step now (Carried m v s) (Carried m v s) true true _ refl ∙ r .is ∙ ap (give (r .handed)) (at-tick _ _ (omega arith));
+        value = r .value;
+        let-go = omega (arith, r .let-go);
+        take = omega (arith, r .take);
+      }
 
   -- The handover: the CLK pull after bit 8 at tick e, and what follows.
   along-handover : (m bit8 : Bool) (v e l t n k : ℕ) (js : List Pulls) → (bit8 ≡ false → l ≡ 0) → l ≤ L .«keep_most» → suc t ≤ L .«take_latest»
       → t < n → t + L .«between_bytes» ≤ n → 1 ≤ k
       → Hands (onward (handover m v e bit8 (isPositive l)) e (λ (q : Phase). run L (suc e) q (map shows (handoverTrack n (less l) t ++ (replicate k held ++ js)))))
-          (run L (e + suc n + k) (ReadyToSend true m) (map shows js)) (record { value = v; «let_go» = e + l; take = e + suc t })
+      (run L (e + suc n + k) (ReadyToSend true m) (map shows js)) (record { value = v; «let_go» = e + l; take = e + suc t })
   unfolding handover
   along-handover m bit8 v e zero t n k js z a b c d one =
-      record
-        { handed = record { value = v; «let_go» = e; take = suc e + t };
-          is =
+      record {
+        handed = record { value = v; «let_go» = e; take = suc e + t };
+        is =
             along-open m v e e t n k (suc e) js (omega arith) c d one
             ∙ ap (give (record { value = v; «let_go» = e; take = suc e + t })) (at-tick _ _ (omega arith));
-          value = refl;
-          let-go = omega arith;
-          take = omega arith }
+        value = refl;
+        let-go = omega arith;
+        take = omega arith;
+      }
   along-handover m false v e (suc l) t n k js z a b c d one = absurd (omega (arith, z refl))
   along-handover m true v e (suc l) t n k js z a b c d one =
       let r = along-carried m v e t n l k (suc e) js (omega arith) (omega arith) (omega arith) c d one in
-      record
-        { handed = r .handed;
-          is = r .is ∙ ap (give (r .handed)) (at-tick _ _ (omega arith));
-          value = r .value;
-          let-go = omega (arith, r .let-go);
-          take = omega (arith, r .take) }
+      record {
+        handed = r .handed;
+        is = r .is ∙ ap (give (r .handed)) (at-tick _ _ (omega arith));
+        value = r .value;
+        let-go = omega (arith, r .let-go);
+        take = omega (arith, r .take);
+      }
 
   module _ (times : Consistent L) where
     -- D up to a CLK pull or an acknowledgement, F and G.
@@ -244,33 +249,33 @@ module _ (L : Limits) where
     along-mark : (any : Bool) (gap ack resp now : ℕ) (js : List Pulls) → L .«end_mark» ≤ gap → gap ≤ L .«end_mark_latest»
         → L .«acknowledge_least» ≤ ack → ack ≤ L .«acknowledge_most» → 1 ≤ resp → resp ≤ L .response
         → run L now (ReadyToSend any false) (map shows (replicate gap nobody ++ (replicate ack held ++ (replicate resp nobody ++ js))))
-          ≡ run L (now + gap + ack + resp) (Acknowledged any now (now + gap + ack)) (map shows js)
+        ≡ run L (now + gap + ack + resp) (Acknowledged any now (now + gap + ack)) (map shows js)
     unfolding next
     along-mark any gap ack resp now js a b c d e f =
         along-gap any gap now _ (omega (arith, times .end-mark)) b
         ∙ enters (ReadyForData any now) (Acknowledgement any now (now + gap)) false false true ack (now + gap) _ (omega (arith, times .acknowledge))
-            (not-below _ _ _ _ _ (omega arith)) (λ i x y. is-below _ _ _ _ _ (omega arith))
+        (not-below _ _ _ _ _ (omega arith)) (λ i x y. is-below _ _ _ _ _ (omega arith))
         ∙ enters (Acknowledgement any now (now + gap)) (Acknowledged any now (now + gap + ack)) false false false resp (now + gap + ack) _ e
-            (not-below _ _ _ _ _ (omega arith)) (λ i x y. is-below _ _ _ _ _ (omega (arith, times .timeout)))
+        (not-below _ _ _ _ _ (omega arith)) (λ i x y. is-below _ _ _ _ _ (omega (arith, times .timeout)))
 
     -- Bits, from the tick after the first set-up tick to the CLK pull after the last of them, which shows DATA d.
     along-bits : (m : Bool) (v now : ℕ) (x : Bit) (xs : List Bit) (d : Bool) (js : List Pulls) → BitRules L x → AllBits L xs
         → run L (suc now) (SetUp m (length xs) v now (x .first))
-            (map shows (map sets (x .others) ++ (replicate (x .valid) (offers (bit x)) ++ bitsTrack xs (sets d ∷ js))))
-          ≡ onward (handover m (takenIn v (x ∷ xs)) (now + bitsTicks (x ∷ xs)) (lastBit (bit x) xs) d) (now + bitsTicks (x ∷ xs))
-              (λ (q : Phase). run L (suc (now + bitsTicks (x ∷ xs))) q (map shows js))
+        (map shows (map sets (x .others) ++ (replicate (x .valid) (offers (bit x)) ++ bitsTrack xs (sets d ∷ js))))
+        ≡ onward (handover m (takenIn v (x ∷ xs)) (now + bitsTicks (x ∷ xs)) (lastBit (bit x) xs) d) (now + bitsTicks (x ∷ xs))
+        (λ (q : Phase). run L (suc (now + bitsTicks (x ∷ xs))) q (map shows js))
     unfolding next afterBit
     along-bits m v now x [] d js rules all =
         along-bit m 0 v now x (sets d ∷ js) (omega (arith, times .valid, rules .valid-least)) rules
         ∙ one-tick _ (Valid m 0 v (suc now + length (x .others)) (bit x))
-            (handover m (withBit v (bit x)) (now + suc (length (x .others) + x .valid)) (bit x) d) true d _
-            (not-below _ _ _ _ _ (omega (arith, rules .valid-least)))
+        (handover m (withBit v (bit x)) (now + suc (length (x .others) + x .valid)) (bit x) d) true d _
+        (not-below _ _ _ _ _ (omega (arith, rules .valid-least)))
         ∙ ap (λ e. onward (handover m (withBit v (bit x)) e (bit x) d) e (λ (q : Phase). run L (suc e) q (map shows js))) (omega arith)
     along-bits m v now x (y ∷ ys) d js rules all =
         along-bit m (suc (length ys)) v now x _ (omega (arith, times .valid, rules .valid-least)) rules
         ∙ step _ (Valid m (suc (length ys)) v (suc now + length (x .others)) (bit x))
-            (SetUp m (length ys) (withBit v (bit x)) (now + suc (length (x .others) + x .valid)) (y .first)) true (y .first) _
-            (not-below _ _ _ _ _ (omega (arith, rules .valid-least)))
+        (SetUp m (length ys) (withBit v (bit x)) (now + suc (length (x .others) + x .valid)) (y .first)) true (y .first) _
+        (not-below _ _ _ _ _ (omega (arith, rules .valid-least)))
         ∙ along-bits m (withBit v (bit x)) (now + suc (length (x .others) + x .valid)) y ys d js (all .0) (all .1)
         ∙ ap (λ e. onward (handover m (takenIn v (x ∷ y ∷ ys)) e (lastBit (bit y) ys) d) e (λ (q : Phase). run L (suc e) q (map shows js))) (omega arith)
 
@@ -285,7 +290,7 @@ module _ (L : Limits) where
     -- A byte, from the CLK pull that begins its bits to the receiver's letting go.
     along-fields : (m : Bool) (p : Phase) (e : ℕ) (bits : List Bit) (l t n k : ℕ) (js : List Pulls) → Begins m e p
         → let f : Frame = record { bits = bits; let-go = l; take = t; release = n; wait = k } in
-          FrameRules L f
+        FrameRules L f
         → Hands (run L e p (map shows (frameTrack f js))) (run L (afterFrame e f) (ReadyToSend true m) (map shows js)) (byteOf e f)
     along-fields m p e [] l t n k js b rules = absurd (omega (arith, rules .eight))
     along-fields m p e (x ∷ xs) l zero n k js b rules = absurd (omega (arith, rules .take-least))
@@ -293,18 +298,19 @@ module _ (L : Limits) where
     along-fields m p e (x ∷ xs) l (suc t) (suc n) k js b rules =
         let seven : length xs ≡ 7 = omega (arith, rules .eight) in
         let r =
-              along-handover m (lastBit (bit x) xs) (takenIn 0 (x ∷ xs)) (e + bitsTicks (x ∷ xs)) l t n k js (rules .let-go-zero) (rules .let-go)
-                (rules .take-most) (omega (arith, rules .release, times .keep-release, times .keep)) (omega (arith, rules .release)) (rules .wait) in
-        record
-          { handed = r .handed;
-            is =
+        along-handover m (lastBit (bit x) xs) (takenIn 0 (x ∷ xs)) (e + bitsTicks (x ∷ xs)) l t n k js (rules .let-go-zero) (rules .let-go)
+        (rules .take-most) (omega (arith, rules .release, times .keep-release, times .keep)) (omega (arith, rules .release)) (rules .wait) in
+        record {
+          handed = r .handed;
+          is =
               step e p (SetUp m 7 0 e (x .first)) true (x .first) _ (b (x .first))
               ∙ seven-left m e (x .first) _ seven
               ∙ along-bits m 0 e x xs (isPositive l) (handoverTrack n (less l) t ++ (replicate k held ++ js)) (rules .bits .0) (rules .bits .1)
               ∙ r .is;
-            value = r .value ∙ eight-bits (x ∷ xs) (rules .eight);
-            let-go = r .let-go;
-            take = r .take }
+          value = r .value ∙ eight-bits (x ∷ xs) (rules .eight);
+          let-go = r .let-go;
+          take = r .take;
+        }
 
     along-frame : (m : Bool) (p : Phase) (e : ℕ) (f : Frame) (js : List Pulls) → Begins m e p → FrameRules L f
         → Hands (run L e p (map shows (frameTrack f js))) (run L (afterFrame e f) (ReadyToSend true m) (map shows js)) (byteOf e f)
@@ -325,20 +331,20 @@ module _ (L : Limits) where
     along-sending any now (more gap f rest) rules =
         let r = rules .0 in
         complete-on
-          (then-hands (along-gap any gap now _ (r .gap-least) (omega (arith, r .gap-most, times .end-mark-in-time)))
-            (along-frame false (ReadyForData any now) (now + gap) f _ (λ d. is-below _ _ _ _ _ (omega (arith, r .gap-most))) (r .frame)))
-          (along-sending true _ rest (rules .1))
+        (then-hands (along-gap any gap now _ (r .gap-least) (omega (arith, r .gap-most, times .end-mark-in-time)))
+        (along-frame false (ReadyForData any now) (now + gap) f _ (λ d. is-below _ _ _ _ _ (omega (arith, r .gap-most))) (r .frame)))
+        (along-sending true _ rest (rules .1))
     along-sending any now (last gap ack resp f silence) r =
         complete-on
-          (then-hands
-            (along-mark any gap ack resp now _ (r .gap-least) (r .gap-most) (r .acknowledgement-least) (r .acknowledgement-most) (r .response-least)
-              (r .response-most))
-            (along-frame true (Acknowledged any now (now + gap + ack)) (now + gap + ack + resp) f _
-              (λ d. is-upTo _ _ _ _ _ (omega (arith, r .response-most))) (r .frame)))
-          (subst⁻¹ (λ o. CompleteBy o []) (along-end silence _ (r .silent)) (record { verdict = refl; ledger = tt }))
+        (then-hands
+        (along-mark any gap ack resp now _ (r .gap-least) (r .gap-most) (r .acknowledgement-least) (r .acknowledgement-most) (r .response-least)
+        (r .response-most))
+        (along-frame true (Acknowledged any now (now + gap + ack)) (now + gap + ack + resp) f _
+        (λ d. is-upTo _ _ _ _ _ (omega (arith, r .response-most))) (r .frame)))
+        (subst⁻¹ (λ o. CompleteBy o []) (along-end silence _ (r .silent)) (record { verdict = refl; ledger = tt }))
 
     -- A plan that keeps the rules is read as complete, with the plan's bytes and each tick the plan's or an earlier one.
     pub along : (p : Plan) → PlanRules L p → CompleteBy (run L 0 Start (map shows (track p))) (planBytes p)
     along p rules =
         subst⁻¹ (λ o. CompleteBy o (planBytes p)) (along-start (p .found) (p .hold) (p .wait) _ (rules .found) (rules .hold) (rules .wait))
-          (along-sending false _ (p .sending) (rules .sending))
+        (along-sending false _ (p .sending) (rules .sending))

@@ -58,29 +58,30 @@ module _ (L : Limits) where
       → HandoverPlan mark bit8 value e js l
   handover-of mark bit8 value e a t take let-go js js′ l split at sum some most keep zero-bit h =
       let w = many (h .after .after) in
-      record
-        { let-go = a;
-          take = take;
-          release = take + h .count;
-          wait = w .count;
-          rest = w .rest;
-          others = h .after .others;
-          let-go-most = keep;
-          let-go-zero = zero-bit;
-          tidy = omega arith;
-          take-least = some;
-          take-most = most;
-          releases = omega (arith, h .after .late, h .ends);
-          waits = w .some;
-          is =
+      record {
+        let-go = a;
+        take = take;
+        release = take + h .count;
+        wait = w .count;
+        rest = w .rest;
+        others = h .after .others;
+        let-go-most = keep;
+        let-go-zero = zero-bit;
+        tidy = omega arith;
+        take-least = some;
+        take-most = most;
+        releases = omega (arith, h .after .late, h .ends);
+        waits = w .some;
+        is =
             split
             ∙ ap (λ x. replicate a clockKept ++ (replicate t clock ++ x))
-                (h .splits ∙ ap (λ x. replicate (h .count) clockHeld ++ x) (w .splits))
+            (h .splits ∙ ap (λ x. replicate (h .count) clockHeld ++ x) (w .splits))
             ∙ handover-is a t (h .count) take (take + h .count) _ sum refl;
-          bytes =
+        bytes =
             h .after .hands
             ∙ ap (λ (x : ℕ). record { value = value; «let_go» = x; take = e + take } ∷ h .after .others) (sym at);
-          after = subst (λ (x : ℕ). AfterC L mark x (w .rest) (h .after .others)) (omega (arith, w .ends, h .ends)) (w .after) }
+        after = subst (λ (x : ℕ). AfterC L mark x (w .rest) (h .after .others)) (omega (arith, w .ends, h .ends)) (w .after);
+      }
 
   module _ (times : Consistent L) where
     handover-plan : (mark bit8 : Bool) (value e : ℕ) (js : List Pulls) (l : List Byte) → Handover L mark bit8 value e js l
@@ -88,29 +89,30 @@ module _ (L : Limits) where
     handover-plan mark bit8 value e js l (opens f) =
         let c = many f in
         handover-of mark bit8 value e 0 (c .count) (c .count) e js (c .rest) l (c .splits) (omega arith) (omega arith) (c .some)
-          (omega (arith, c .ends, c .after .0)) (omega arith) (λ z. refl)
-          (subst⁻¹
-            (λ (x : ℕ). Stays clockHeld (HandsOver L (record { value = value; «let_go» = e; take = x }) mark (x + L .«between_bytes»)) x (c .rest) l)
-            (c .ends) (joined (c .after .1)))
+        (omega (arith, c .ends, c .after .0)) (omega arith) (λ z. refl)
+        (subst⁻¹
+        (λ (x : ℕ). Stays clockHeld (HandsOver L (record { value = value; «let_go» = e; take = x }) mark (x + L .«between_bytes»)) x (c .rest) l)
+        (c .ends) (joined (c .after .1)))
     handover-plan mark bit8 value e js l (carries b f) = at (f .after)
       where
         no-zero : (n : ℕ) → bit8 ≡ false → n ≡ 0
         no-zero n z = let q : _≡_ {A = ℕ} n 0 = cc in q
+
         at : Carries L mark value e (suc e) (f .rest) l → HandoverPlan mark bit8 value e js l
         at (inl h) =
             let a = many {js = js} (record { rest = f .rest; splits = f .splits; after = h }) in
             let c = many (a .after .1) in
             handover-of mark bit8 value e (a .count) (c .count) (a .count + c .count) (a .till) js (c .rest) l
-              (a .splits ∙ ap (λ x. replicate (a .count) clockKept ++ x) (c .splits)) (a .ends) refl (omega (arith, c .some))
-              (omega (arith, c .ends, a .ends, c .after .0)) (omega (arith, a .ends, a .after .0)) (no-zero (a .count))
-              (subst⁻¹
-                (λ (x : ℕ). Stays clockHeld (HandsOver L (record { value = value; «let_go» = a .till; take = x }) mark (x + L .«between_bytes»)) x (c .rest) l)
-                (omega (arith, c .ends, a .ends)) (joined (c .after .1)))
+            (a .splits ∙ ap (λ x. replicate (a .count) clockKept ++ x) (c .splits)) (a .ends) refl (omega (arith, c .some))
+            (omega (arith, c .ends, a .ends, c .after .0)) (omega (arith, a .ends, a .after .0)) (no-zero (a .count))
+            (subst⁻¹
+            (λ (x : ℕ). Stays clockHeld (HandsOver L (record { value = value; «let_go» = a .till; take = x }) mark (x + L .«between_bytes»)) x (c .rest) l)
+            (omega (arith, c .ends, a .ends)) (joined (c .after .1)))
         at (inr h) =
             handover-of mark bit8 value e 1 0 1 (e + 1) js (f .rest) l (f .splits) refl refl (omega arith)
-              (omega (arith, times .keep-take)) (times .keep) (no-zero 1)
-              (subst₂ (λ (x y : ℕ). Stays clockHeld (HandsOver L (record { value = value; «let_go» = e + 1; take = e + 1 }) mark y) x (f .rest) l)
-                (omega arith) (omega arith) h)
+            (omega (arith, times .keep-take)) (times .keep) (no-zero 1)
+            (subst₂ (λ (x y : ℕ). Stays clockHeld (HandsOver L (record { value = value; «let_go» = e + 1; take = e + 1 }) mark y) x (f .rest) l)
+            (omega arith) (omega arith) h)
 
     -- Bits, and the handover after them.
     record BitsPlan (mark b : Bool) (left value e : ℕ) (js : List Pulls) (l : List Byte) : Type 0 where
@@ -125,15 +127,16 @@ module _ (L : Limits) where
 
     bits-plan : (mark b : Bool) (left value e : ℕ) (js : List Pulls) (l : List Byte) → Bits L mark left value b e js l → BitsPlan mark b left value e js l
     bits-plan mark b zero value e js l h =
-        record
-          { bits = [];
-            number = refl;
-            rules = tt;
-            till = e;
-            rest = js;
-            ends = omega arith;
-            is = refl;
-            after = handover-plan mark b value e js l h }
+        record {
+          bits = [];
+          number = refl;
+          rules = tt;
+          till = e;
+          rest = js;
+          ends = omega arith;
+          is = refl;
+          after = handover-plan mark b value e js l h;
+        }
     bits-plan mark b (suc left) value e js l h =
         let d = h .0 in
         let f = h .1 in
@@ -141,24 +144,27 @@ module _ (L : Limits) where
         let c = lastOf d (s .pulled) in
         let o = many (s .after) in
         let r = bits-plan mark c left (withBit value c) (o .till) (o .rest) l (o .after .2) in
-        record
-          { bits = record { first = d; others = s .pulled; valid = o .count } ∷ r .bits;
-            number = ap suc (r .number);
-            rules =
-              (record
-                { set-up = omega (arith, s .ends, s .fits);
-                  valid-least = omega (arith, o .ends, o .after .0);
-                  valid-most = omega (arith, o .ends, o .after .1) },
-              r .rules);
-            till = r .till;
-            rest = r .rest;
-            ends = omega (arith, r .ends, o .ends, s .ends);
-            is =
+        record {
+          bits = record { first = d; others = s .pulled; valid = o .count } ∷ r .bits;
+          number = ap suc (r .number);
+          rules = (
+            record {
+              set-up = omega (arith, s .ends, s .fits);
+              valid-least = omega (arith, o .ends, o .after .0);
+              valid-most = omega (arith, o .ends, o .after .1);
+            },
+            r .rules,
+          );
+          till = r .till;
+          rest = r .rest;
+          ends = omega (arith, r .ends, o .ends, s .ends);
+          is =
               f .splits
               ∙ ap (λ x. sets d ∷ x)
-                  (s .splits
-                  ∙ ap (λ x. map sets (s .pulled) ++ x) (o .splits ∙ ap (λ x. replicate (o .count) (offers c) ++ x) (r .is)));
-            after = r .after }
+              (s .splits
+              ∙ ap (λ x. map sets (s .pulled) ++ x) (o .splits ∙ ap (λ x. replicate (o .count) (offers c) ++ x) (r .is)));
+          after = r .after;
+        }
 
     -- A byte whose bits begin at tick e.
     record FramePlan (mark : Bool) (e : ℕ) (js : List Pulls) (l : List Byte) : Type 0 where
@@ -174,27 +180,29 @@ module _ (L : Limits) where
     frame-of : (mark : Bool) (e : ℕ) (js : List Pulls) (l : List Byte) → BitsPlan mark false 8 0 e js l → FramePlan mark e js l
     frame-of mark e js l x =
         let h = x .after in
-        record
-          { frame = record { bits = x .bits; let-go = h .let-go; take = h .take; release = h .release; wait = h .wait };
-            rules =
-              record
-                { eight = x .number;
-                  bits = x .rules;
-                  let-go = h .let-go-most;
-                  let-go-zero = h .let-go-zero;
-                  take-least = h .take-least;
-                  take-most = h .take-most;
-                  release = h .releases;
-                  wait = h .waits };
-            tidy = h .tidy;
-            rest = h .rest;
-            others = h .others;
-            is = x .is ∙ ap (bitsTrack (x .bits)) (h .is);
-            bytes =
+        record {
+          frame = record { bits = x .bits; let-go = h .let-go; take = h .take; release = h .release; wait = h .wait };
+          rules =
+              record {
+                eight = x .number;
+                bits = x .rules;
+                let-go = h .let-go-most;
+                let-go-zero = h .let-go-zero;
+                take-least = h .take-least;
+                take-most = h .take-most;
+                release = h .releases;
+                wait = h .waits;
+              };
+          tidy = h .tidy;
+          rest = h .rest;
+          others = h .others;
+          is = x .is ∙ ap (bitsTrack (x .bits)) (h .is);
+          bytes =
               h .bytes
               ∙ ap₂ (λ (v t : ℕ). record { value = v; «let_go» = t + h .let-go; take = t + h .take } ∷ h .others)
-                  (eight-bits (x .bits) (x .number)) (sym (x .ends));
-            after = subst⁻¹ (λ (t : ℕ). AfterC L mark (t + h .release + h .wait) (h .rest) (h .others)) (x .ends) (h .after) }
+              (eight-bits (x .bits) (x .number)) (sym (x .ends));
+          after = subst⁻¹ (λ (t : ℕ). AfterC L mark (t + h .release + h .wait) (h .rest) (h .others)) (x .ends) (h .after);
+        }
 
     frame-plan : (mark : Bool) (e : ℕ) (js : List Pulls) (l : List Byte) → Bits L mark 8 0 false e js l → FramePlan mark e js l
     frame-plan mark e js l h = frame-of mark e js l (bits-plan mark false 8 0 e js l h)
@@ -203,39 +211,42 @@ module _ (L : Limits) where
         → js ≡ replicate gap nobody ++ js′ → FramePlan false e js′ l → Sends L now js l
     sends-more now gap e js js′ l some ends most split f =
         let s = f .after in
-        record
-          { plan = more gap (f .frame) (s .plan);
-            rules = (record { gap-least = some; gap-most = omega arith; frame = f .rules }, s .rules);
-            tidy = (f .tidy, s .tidy);
-            is = split ∙ ap (λ x. replicate gap nobody ++ x) (f .is ∙ ap (frameTrack (f .frame)) (s .is));
-            bytes =
+        record {
+          plan = more gap (f .frame) (s .plan);
+          rules = (record { gap-least = some; gap-most = omega arith; frame = f .rules }, s .rules);
+          tidy = (f .tidy, s .tidy);
+          is = split ∙ ap (λ x. replicate gap nobody ++ x) (f .is ∙ ap (frameTrack (f .frame)) (s .is));
+          bytes =
               f .bytes
               ∙ ap (λ x. byteOf e (f .frame) ∷ x) (s .bytes)
-              ∙ ap (λ (x : ℕ). byteOf x (f .frame) ∷ sendingBytes (afterFrame x (f .frame)) (s .plan)) (sym ends) }
+              ∙ ap (λ (x : ℕ). byteOf x (f .frame) ∷ sendingBytes (afterFrame x (f .frame)) (s .plan)) (sym ends);
+        }
 
     sends-last : (now gap ack resp e : ℕ) (js js′ : List Pulls) (l : List Byte) → L .«end_mark» ≤ gap → gap ≤ L .«end_mark_latest»
         → L .«acknowledge_least» ≤ ack → ack ≤ L .«acknowledge_most» → 1 ≤ resp → resp ≤ L .response → now + gap + ack + resp ≡ e
         → js ≡ replicate gap nobody ++ (replicate ack held ++ (replicate resp nobody ++ js′)) → FramePlan true e js′ l → Sends L now js l
     sends-last now gap ack resp e js js′ l a b c d g h ends split f =
         let s = f .after in
-        record
-          { plan = last gap ack resp (f .frame) (suc (s .after .count));
-            rules =
-              record
-                { gap-least = a;
-                  gap-most = b;
-                  acknowledgement-least = c;
-                  acknowledgement-most = d;
-                  response-least = g;
-                  response-most = h;
-                  frame = f .rules;
-                  silent = omega arith };
-            tidy = f .tidy;
-            is =
+        record {
+          plan = last gap ack resp (f .frame) (suc (s .after .count));
+          rules =
+              record {
+                gap-least = a;
+                gap-most = b;
+                acknowledgement-least = c;
+                acknowledgement-most = d;
+                response-least = g;
+                response-most = h;
+                frame = f .rules;
+                silent = omega arith;
+              };
+          tidy = f .tidy;
+          is =
               split
               ∙ ap (λ x. replicate gap nobody ++ (replicate ack held ++ (replicate resp nobody ++ x)))
-                  (f .is ∙ ap (frameTrack (f .frame)) (s .splits ∙ ap (λ x. nobody ∷ x) (s .after .is)));
-            bytes = f .bytes ∙ ap₂ (λ (x : ℕ) y. byteOf x (f .frame) ∷ y) (sym ends) (s .after .bytes) }
+              (f .is ∙ ap (frameTrack (f .frame)) (s .splits ∙ ap (λ x. nobody ∷ x) (s .after .is)));
+          bytes = f .bytes ∙ ap₂ (λ (x : ℕ) y. byteOf x (f .frame) ∷ y) (sym ends) (s .after .bytes);
+        }
 
     -- D, from the letting go on.
     pub sends : (now : ℕ) (js : List Pulls) (l : List Byte) → First nobody (Stays nobody (AfterD L now)) now js l → Sends L now js l
@@ -247,7 +258,7 @@ module _ (L : Limits) where
             let a = many (h .2) in
             let r = many (a .after .2) in
             sends-last now (g .count) (a .count) (r .count) (r .till) js (r .rest) l (omega (arith, g .ends, h .0)) (omega (arith, g .ends, h .1))
-              (omega (arith, a .ends, a .after .0)) (omega (arith, a .ends, a .after .1)) (r .some) (omega (arith, r .ends, r .after .0))
-              (omega (arith, g .ends, a .ends, r .ends))
-              (g .splits ∙ ap (λ x. replicate (g .count) nobody ++ x) (a .splits ∙ ap (λ x. replicate (a .count) held ++ x) (r .splits)))
-              (frame-plan true (r .till) (r .rest) l (r .after .1))
+            (omega (arith, a .ends, a .after .0)) (omega (arith, a .ends, a .after .1)) (r .some) (omega (arith, r .ends, r .after .0))
+            (omega (arith, g .ends, a .ends, r .ends))
+            (g .splits ∙ ap (λ x. replicate (g .count) nobody ++ x) (a .splits ∙ ap (λ x. replicate (a .count) held ++ x) (r .splits)))
+            (frame-plan true (r .till) (r .rest) l (r .after .1))

@@ -50,13 +50,14 @@ module _ {p : Pulls} {K : Rest} {now : ℕ} {js : List Pulls} {l : List Byte} wh
 
   pub stay : Stays p K (suc now) js l → Stays p K now (p ∷ js) l
   stay s =
-      record
-        { count = suc (s .count);
-          till = s .till;
-          rest = s .rest;
-          ends = omega (arith, s .ends);
-          splits = ap (λ x. p ∷ x) (s .splits);
-          after = s .after }
+      record {
+        count = suc (s .count);
+        till = s .till;
+        rest = s .rest;
+        ends = omega (arith, s .ends);
+        splits = ap (λ x. p ∷ x) (s .splits);
+        after = s .after;
+      }
 
   pub one : K (suc now) js l → First p K now (p ∷ js) l
   one k = record { rest = js; splits = refl; after = k }
@@ -64,14 +65,15 @@ module _ {p : Pulls} {K : Rest} {now : ℕ} {js : List Pulls} {l : List Byte} wh
   pub many : First p (Stays p K) now js l → Many p K now js l
   many f =
       let s = f .after in
-      record
-        { count = suc (s .count);
-          till = s .till;
-          rest = s .rest;
-          some = omega arith;
-          ends = omega (arith, s .ends);
-          splits = f .splits ∙ ap (λ x. p ∷ x) (s .splits);
-          after = s .after }
+      record {
+        count = suc (s .count);
+        till = s .till;
+        rest = s .rest;
+        some = omega arith;
+        ends = omega (arith, s .ends);
+        splits = f .splits ∙ ap (λ x. p ∷ x) (s .splits);
+        after = s .after;
+      }
 
   pub joined : First p (Stays p K) now js l → Stays p K now js l
   joined f =
@@ -118,16 +120,16 @@ module _ (L : Limits) where
   abbrev pub Opened : (mark : Bool) (value since let-go : ℕ) → Rest
   Opened mark value since let-go =
       Stays clock
-        (λ now js l.
-          (now ≤ since + L .«take_latest»)
-          × First clockHeld (Holds (record { value = value; «let_go» = let-go; take = now }) mark) now js l)
+      (λ now js l.
+      (now ≤ since + L .«take_latest»)
+      × First clockHeld (Holds (record { value = value; «let_go» = let-go; take = now }) mark) now js l)
 
   abbrev pub Carries : (mark : Bool) (value since : ℕ) → Rest
   Carries mark value since now js l =
       Stays clockKept (λ now js l. (now ≤ since + L .«keep_most») × First clock (Opened mark value since now) now js l) now js l
       ⊎ Stays clockHeld
-          (HandsOver (record { value = value; «let_go» = since + 1; take = since + 1 }) mark (suc (since + L .«between_bytes»)))
-          now js l
+      (HandsOver (record { value = value; «let_go» = since + 1; take = since + 1 }) mark (suc (since + L .«between_bytes»)))
+      now js l
 
   pub data Handover (mark bit8 : Bool) (value now : ℕ) (js : List Pulls) (l : List Byte) : Type 0 where
     opens : First clock (Opened mark value now now) now js l → Handover mark bit8 value now js l
@@ -160,8 +162,8 @@ module _ (L : Limits) where
   abbrev pub Acknowledges : (since : ℕ) → Rest
   Acknowledges since =
       Stays held
-        (λ now js l.
-          (since + L .«acknowledge_least» ≤ now) × (now ≤ since + L .«acknowledge_most») × First nobody (Responds now) now js l)
+      (λ now js l.
+      (since + L .«acknowledge_least» ≤ now) × (now ≤ since + L .«acknowledge_most») × First nobody (Responds now) now js l)
 
   -- What ends D: the CLK pull of a plain byte, or the acknowledgement of an end mark.
   abbrev pub AfterD : (since : ℕ) → Rest

@@ -29,20 +29,20 @@ stays t c s r zero now js h = at-tick t (map shows js) (omega arith)
 stays t c s r (suc k) now js h =
     h now (omega arith) (omega arith) _
     ∙ ap (λ x. pulls c s r ∷ x)
-        (stays t c s r k (suc now) js (λ i a b. h i (omega arith) (omega arith))
-        ∙ ap (λ x. replicate k (pulls c s r) ++ x) (at-tick t (map shows js) (omega arith)))
+    (stays t c s r k (suc now) js (λ i a b. h i (omega arith) (omega arith))
+    ∙ ap (λ x. replicate k (pulls c s r) ++ x) (at-tick t (map shows js) (omega arith)))
 
 -- The receiver's turn with CLK pulled, then released.
 holds-on : (r : Bool) (k now : ℕ) (l : List Byte) (js : List Pulls)
     → shownFrom now (holding l) (map shows (replicate k (pulls true false r) ++ js))
-      ≡ replicate k (pulls true false r) ++ shownFrom (now + k) (holding l) (map shows js)
+    ≡ replicate k (pulls true false r) ++ shownFrom (now + k) (holding l) (map shows js)
 unfolding shownFrom
 holds-on true k now l js = stays (holding l) true false true k now js (λ i a b w. refl)
 holds-on false k now l js = stays (holding l) true false false k now js (λ i a b w. refl)
 
 waits-on : (r : Bool) (k now : ℕ) (l : List Byte) (js : List Pulls)
     → shownFrom now (waiting l) (map shows (replicate k (pulls false false r) ++ js))
-      ≡ replicate k (pulls false false r) ++ shownFrom (now + k) (waiting l) (map shows js)
+    ≡ replicate k (pulls false false r) ++ shownFrom (now + k) (waiting l) (map shows js)
 unfolding shownFrom
 waits-on true k now l js = stays (waiting l) false false true k now js (λ i a b w. refl)
 waits-on false k now l js = stays (waiting l) false false false k now js (λ i a b w. refl)
@@ -53,7 +53,7 @@ unfolding shownFrom
 holds-waits zero now l js one = absurd (omega arith)
 holds-waits (suc k) now l js one =
     ap (λ x. held ∷ x)
-      (waits-on true k (suc now) l js ∙ ap (λ x. replicate k held ++ x) (at-tick (waiting l) (map shows js) (omega arith)))
+    (waits-on true k (suc now) l js ∙ ap (λ x. replicate k held ++ x) (at-tick (waiting l) (map shows js) (omega arith)))
 
 -- The sender's turn, within the byte b.
 module _ (b : Byte) (l : List Byte) where
@@ -77,7 +77,7 @@ module _ (b : Byte) (l : List Byte) where
   sends-set-up (d ∷ ds) now js h =
       sends now true d _ (omega arith)
       ∙ ap (λ x. sets d ∷ x)
-          (sends-set-up ds (suc now) js (omega arith) ∙ ap (λ x. map sets ds ++ x) (at-tick (sending b l) (map shows js) (omega arith)))
+      (sends-set-up ds (suc now) js (omega arith) ∙ ap (λ x. map sets ds ++ x) (at-tick (sending b l) (map shows js) (omega arith)))
 
   sends-valid : (d : Bool) (k now : ℕ) (js : List Pulls) → now + k ≤ b .«let_go»
       → shownFrom now (sending b l) (map shows (replicate k (offers d) ++ js)) ≡ replicate k (offers d) ++ shownFrom (now + k) (sending b l) (map shows js)
@@ -86,7 +86,7 @@ module _ (b : Byte) (l : List Byte) where
   -- A bit after its first set-up tick, and all bits that follow.
   sends-bit : (x : Bit) (now : ℕ) (js : List Pulls) → now + length (x .others) + x .valid ≤ b .«let_go»
       → shownFrom now (sending b l) (map shows (map sets (x .others) ++ (replicate (x .valid) (offers (bit x)) ++ js)))
-        ≡ map sets (x .others) ++ (replicate (x .valid) (offers (bit x)) ++ shownFrom (now + length (x .others) + x .valid) (sending b l) (map shows js))
+      ≡ map sets (x .others) ++ (replicate (x .valid) (offers (bit x)) ++ shownFrom (now + length (x .others) + x .valid) (sending b l) (map shows js))
   sends-bit x now js h =
       sends-set-up (x .others) now _ (omega arith)
       ∙ ap (λ y. map sets (x .others) ++ y) (sends-valid (bit x) (x .valid) (now + length (x .others)) js (omega arith))
@@ -97,10 +97,10 @@ module _ (b : Byte) (l : List Byte) where
   sends-bits (x ∷ xs) now js h =
       sends now true (x .first) _ (omega arith)
       ∙ ap (λ y. sets (x .first) ∷ y)
-          (sends-bit x (suc now) _ (omega arith)
-          ∙ ap (λ y. map sets (x .others) ++ (replicate (x .valid) (offers (bit x)) ++ y))
-              (sends-bits xs (suc now + length (x .others) + x .valid) js (omega arith)
-              ∙ ap (bitsTrack xs) (at-tick (sending b l) (map shows js) (omega arith))))
+      (sends-bit x (suc now) _ (omega arith)
+      ∙ ap (λ y. map sets (x .others) ++ (replicate (x .valid) (offers (bit x)) ++ y))
+      (sends-bits xs (suc now + length (x .others) + x .valid) js (omega arith)
+      ∙ ap (bitsTrack xs) (at-tick (sending b l) (map shows js) (omega arith))))
 
   -- The handover: once the sender has let go, CLK stays pulled.
   holds-handover : (t n now : ℕ) (js : List Pulls)
@@ -121,28 +121,28 @@ module _ (b : Byte) (l : List Byte) where
   sends-handover (suc k) (suc t) (suc n) now js e h a =
       sends now true true _ (omega arith)
       ∙ ap (λ x. clockKept ∷ x)
-          (sends-handover k t n (suc now) js (omega arith) (omega arith) (omega arith)
-          ∙ ap (λ x. handoverTrack n k t ++ x) (at-tick (holding l) (map shows js) (omega arith)))
+      (sends-handover k t n (suc now) js (omega arith) (omega arith) (omega arith)
+      ∙ ap (λ x. handoverTrack n k t ++ x) (at-tick (holding l) (map shows js) (omega arith)))
 
 module _ (L : Limits) (times : Consistent L) where
   -- A byte whose bits begin at tick `now`.
   shows-fields : (bits : List Bit) (k t n wait now : ℕ) (l : List Byte) (js : List Pulls)
       → let f : Frame = record { bits = bits; let-go = k; take = t; release = n; wait = wait } in
-        FrameRules L f → k ≤ t
+      FrameRules L f → k ≤ t
       → shownFrom now (waiting (byteOf now f ∷ l)) (map shows (frameTrack f js)) ≡ frameTrack f (shownFrom (afterFrame now f) (waiting l) (map shows js))
   shows-fields [] k t n wait now l js rules tidy = absurd (omega (arith, rules .eight))
   shows-fields (x ∷ xs) k t n wait now l js rules tidy =
       let b = byteOf now (record { bits = x ∷ xs; let-go = k; take = t; release = n; wait = wait }) in
       begins b l now (x .first) _
       ∙ ap (λ y. sets (x .first) ∷ y)
-          (sends-bit b l x (suc now) _ (omega arith)
-          ∙ ap (λ y. map sets (x .others) ++ (replicate (x .valid) (offers (bit x)) ++ y))
-              (sends-bits b l xs (suc now + length (x .others) + x .valid) _ (omega arith)
-              ∙ ap (bitsTrack xs)
-                  (sends-handover b l k t n _ _ (omega arith) tidy (omega (arith, rules .release, times .keep, times .keep-release))
-                  ∙ ap (λ y. handoverTrack n k t ++ y)
-                      (holds-waits wait _ l js (rules .wait)
-                      ∙ ap (λ y. replicate wait held ++ y) (at-tick (waiting l) (map shows js) (omega arith))))))
+      (sends-bit b l x (suc now) _ (omega arith)
+      ∙ ap (λ y. map sets (x .others) ++ (replicate (x .valid) (offers (bit x)) ++ y))
+      (sends-bits b l xs (suc now + length (x .others) + x .valid) _ (omega arith)
+      ∙ ap (bitsTrack xs)
+      (sends-handover b l k t n _ _ (omega arith) tidy (omega (arith, rules .release, times .keep, times .keep-release))
+      ∙ ap (λ y. handoverTrack n k t ++ y)
+      (holds-waits wait _ l js (rules .wait)
+      ∙ ap (λ y. replicate wait held ++ y) (at-tick (waiting l) (map shows js) (omega arith))))))
 
   shows-frame : (f : Frame) (now : ℕ) (l : List Byte) (js : List Pulls) → FrameRules L f → f .let-go ≤ f .take
       → shownFrom now (waiting (byteOf now f ∷ l)) (map shows (frameTrack f js)) ≡ frameTrack f (shownFrom (afterFrame now f) (waiting l) (map shows js))
@@ -158,24 +158,24 @@ module _ (L : Limits) (times : Consistent L) where
   shows-sending now (more gap f rest) rules tidy =
       waits-on false gap now _ _
       ∙ ap (λ x. replicate gap nobody ++ x)
-          (shows-frame f (now + gap) _ _ (rules .0 .frame) (tidy .0)
-          ∙ ap (frameTrack f) (shows-sending (afterFrame (now + gap) f) rest (rules .1) (tidy .1)))
+      (shows-frame f (now + gap) _ _ (rules .0 .frame) (tidy .0)
+      ∙ ap (frameTrack f) (shows-sending (afterFrame (now + gap) f) rest (rules .1) (tidy .1)))
   shows-sending now (last gap ack resp f silence) rules tidy =
       waits-on false gap now _ _
       ∙ ap (λ x. replicate gap nobody ++ x)
-          (waits-on true ack (now + gap) _ _
-          ∙ ap (λ x. replicate ack held ++ x)
-              (waits-on false resp (now + gap + ack) _ _
-              ∙ ap (λ x. replicate resp nobody ++ x)
-                  (shows-frame f (now + gap + ack + resp) [] _ (rules .frame) tidy
-                  ∙ ap (frameTrack f) (shows-end silence (afterFrame (now + gap + ack + resp) f)))))
+      (waits-on true ack (now + gap) _ _
+      ∙ ap (λ x. replicate ack held ++ x)
+      (waits-on false resp (now + gap + ack) _ _
+      ∙ ap (λ x. replicate resp nobody ++ x)
+      (shows-frame f (now + gap + ack + resp) [] _ (rules .frame) tidy
+      ∙ ap (frameTrack f) (shows-end silence (afterFrame (now + gap + ack + resp) f)))))
 
   pub shows-plan : (p : Plan) → PlanRules L p → Tidy (p .sending) → shown (planBytes p) (map shows (track p)) ≡ track p
   shows-plan p rules tidy =
       holds-on false (p .found) 0 _ _
       ∙ ap (λ x. replicate (p .found) clock ++ x)
-          (at-tick (holding (planBytes p)) _ (omega arith)
-          ∙ holds-on true (p .hold) (p .found) _ _
-          ∙ ap (λ x. replicate (p .hold) clockHeld ++ x)
-              (holds-waits (p .wait) (p .found + p .hold) _ _ (rules .wait)
-              ∙ ap (λ x. replicate (p .wait) held ++ x) (shows-sending (p .found + p .hold + p .wait) (p .sending) (rules .sending) tidy)))
+      (at-tick (holding (planBytes p)) _ (omega arith)
+      ∙ holds-on true (p .hold) (p .found) _ _
+      ∙ ap (λ x. replicate (p .hold) clockHeld ++ x)
+      (holds-waits (p .wait) (p .found + p .hold) _ _ (rules .wait)
+      ∙ ap (λ x. replicate (p .wait) held ++ x) (shows-sending (p .found + p .hold + p .wait) (p .sending) (rules .sending) tidy)))
