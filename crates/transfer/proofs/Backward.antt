@@ -12,14 +12,17 @@ use Rattle.transfer.specs.Choice.{if_then_else_}
 use Rattle.transfer.specs.Offsets.{below, upTo}
 use Rattle.transfer.specs.Phases.{Move, Go, Hand, Stop, next, same, withBit, handover, afterBit}
 use Rattle.transfer.specs.Outcome.{Outcome}
-use Rattle.transfer.specs.Parties.{Pulls, pulls, nobody, held, clock, clockHeld, clockKept, sets, offers, Plan, track, sendingBytes, planBytes}
+use Rattle.transfer.specs.Parties.{Pulls, pulls, nobody, held, clock, clockHeld, clockKept, sets, offers, Plan, track}
+use Rattle.transfer.specs.Parties.{sendingBytes, planBytes}
 use Rattle.transfer.specs.Rules.{PlanRules}
 use Rattle.transfer.specs.Demand3.{Consistent}
 use Rattle.transfer.specs.declared.limits.Limits.{Limits}
 use Rattle.transfer.specs.declared.lines.Lines.{Lines}
 use Rattle.transfer.specs.declared.phase.Byte.{Byte}
 use Rattle.transfer.specs.declared.phase.Phase.{Phase}
-use Rattle.transfer.specs.declared.phase.Phase.the-variants.{Start, FirstHold, Hold, ReadyToSend, ReadyForData, Acknowledgement, Acknowledged, SetUp, Valid, Open, Carried, End, Decided}
+use Rattle.transfer.specs.declared.phase.Phase.the-variants.{Start, FirstHold, Hold, ReadyToSend, ReadyForData}
+use Rattle.transfer.specs.declared.phase.Phase.the-variants.{Acknowledgement, Acknowledged, SetUp, Valid, Open, Carried}
+use Rattle.transfer.specs.declared.phase.Phase.the-variants.{End, Decided}
 use Rattle.transfer.specs.declared.verdict.Fault.{Fault}
 use Rattle.transfer.specs.declared.verdict.Fault.the-variants.{Attention, ClockStall}
 use Rattle.transfer.specs.declared.verdict.Verdict.{Verdict}
@@ -132,11 +135,13 @@ module _ (L : Limits) where
   unfolding next
   row-start false d now w ih i = at (eqb now 0)
     where
-      at : (t : Bool) → Sound (From Start now (lines false d ∷ w)) (onward (if t then Stop Fault.BadStart else Stop Fault.OutOfTurn) now (λ (q : Phase). run L (suc now) q w))
+      at : (t : Bool) → Sound (From Start now (lines false d ∷ w)) (onward (if t then Stop Fault.BadStart
+          else Stop Fault.OutOfTurn) now (λ (q : Phase). run L (suc now) q w))
       at true = dead _ _ _
       at false = dead _ _ _
   row-start true true now w ih i = goes clockHeld Start FirstHold now w _ (λ js l h. leaves (i, one h)) (ih (suc now) FirstHold tt)
-  row-start true false now w ih i = if-below _ _ _ _ _ _ _ (λ a. goes clock Start Start now w _ (λ js l h. stay h) (ih (suc now) Start (omega arith)))
+  row-start true false now w ih i = if-below _ _ _ _ _ _ _ (λ a. goes clock Start Start now w _ (λ js l h. stay h) (ih
+      (suc now) Start (omega arith)))
 
   row-first-hold : (c d : Bool) → Row FirstHold c d
   unfolding next
@@ -238,10 +243,12 @@ module _ (L : Limits) where
         (ih (suc now) (SetUp true 7 0 now d) (omega (arith, times .set-up))))
     row-acknowledged false ready s false false now w ih i =
         if-below _ _ _ _ _ _ _
-        (λ a. goes nobody (Acknowledged false ready s) (Acknowledged false ready s) now w _ (λ js l h. stay h) (ih (suc now) (Acknowledged false ready s) tt))
+        (λ a. goes nobody (Acknowledged false ready s) (Acknowledged false ready s) now w _ (λ js l h. stay h) (ih (suc now)
+        (Acknowledged false ready s) tt))
     row-acknowledged true ready s false false now w ih i =
         if-below _ _ _ _ _ _ _
-        (λ a. goes nobody (Acknowledged true ready s) (Acknowledged true ready s) now w _ (λ js l h. stay h) (ih (suc now) (Acknowledged true ready s) tt))
+        (λ a. goes nobody (Acknowledged true ready s) (Acknowledged true ready s) now w _ (λ js l h. stay h) (ih (suc now)
+        (Acknowledged true ready s) tt))
 
     -- The last set-up tick shows b, and the first valid tick too.
     to-valid : (m : Bool) (left v s : ℕ) (b : Bool) (now : ℕ) (w : List Lines) → Holds w → InTime (SetUp m left v s b) now
@@ -275,7 +282,8 @@ module _ (L : Limits) where
 
     on-valid : (m : Bool) (left v s : ℕ) (b : Bool) (now : ℕ) (w : List Lines) → Holds w → InTime (Valid m left v s b) now
         → Sound (From (Valid m left v s b) now (lines false b ∷ w))
-        (onward (if below (L .«valid_most») s now then Go (Valid m left v s b) else Stop ClockStall) now (λ (q : Phase). run L (suc now) q w))
+        (onward (if below (L .«valid_most») s now then Go (Valid m left v s b)
+        else Stop ClockStall) now (λ (q : Phase). run L (suc now) q w))
     on-valid m left v s b now w ih i =
         if-below _ _ _ _ _ _ _
         (λ a. goes (offers b) (Valid m left v s b) (Valid m left v s b) now w _ (λ js l h. stay h) (ih (suc now) (Valid m left v s b) a))

@@ -32,13 +32,15 @@ same-values (a ∷ ledger) (b ∷ other) h = ap₂ (λ (v : ℕ) l. v ∷ l) (h 
 
 module _ (L : Limits) (times : Consistent L) (w : List Lines) where
   -- A pair that gives the ticks: they are complete with its bytes, and no tick of the ledger is later than the pair's.
-  reads : (string : List ℕ) (sender : List SenderPulls) (receiver : List Bool) (ticks : List Byte) → Explains L w string sender receiver ticks
+  reads : (string : List ℕ) (sender : List SenderPulls) (receiver : List Bool) (ticks : List Byte)
+      → Explains L w string sender receiver ticks
       → CompleteBy (outcome L w) ticks
   reads string sender receiver ticks x =
       let p = x .pair in
       let given : map shows (track (p .plan)) ≡ w =
       sym (gives-shows (track (p .plan))) ∙ sym (ap₂ gives (p .sends) (p .receives)) ∙ x .gives-it in
-      let bytes = subst⁻¹ (λ l. CompleteBy (run L 0 Start (map shows (track (p .plan)))) l) (p .ticks-are) (along L times (p .plan) (p .rules)) in
+      let bytes = subst⁻¹ (λ l. CompleteBy (run L 0 Start (map shows (track (p .plan)))) l) (p .ticks-are) (along L times
+      (p .plan) (p .rules)) in
       subst⁻¹ (λ o. CompleteBy o ticks) (outcome-is L w) (subst (λ v. CompleteBy (run L 0 Start v) ticks) given bytes)
 
   -- A complete tick list is what a plan gives.
@@ -47,7 +49,8 @@ module _ (L : Limits) (times : Consistent L) (w : List Lines) where
       subst⁻¹ (λ (o : Outcome). Planned L times w (o .bytes)) (outcome-is L w)
       (back L times w (ap (λ (o : Outcome). o .verdict) (sym (outcome-is L w)) ∙ e))
 
-  shows-pair : (string : List ℕ) → CompleteWith L w string → Explains L w string (shownSender L w) (shownReceiver L w) (outcome L w .bytes)
+  shows-pair : (string : List ℕ) → CompleteWith L w string
+      → Explains L w string (shownSender L w) (shownReceiver L w) (outcome L w .bytes)
   shows-pair string c =
       let p = planned (c .verdict) in
       let e : shown (outcome L w .bytes) w ≡ track (p .plan) =
@@ -73,7 +76,11 @@ module _ (L : Limits) (times : Consistent L) (w : List Lines) where
   complete string x =
       let r = reads string (x .sender) (x .receiver) (x .ticks) (x .explains) in
       let p = x .explains .pair in
-      record { verdict = r .verdict; bytes = same-values (outcome L w .bytes) (x .ticks) (r .ledger) ∙ ap values (p .ticks-are) ∙ sym (p .string-is) }
+      record {
+        verdict = r .verdict;
+        bytes = same-values (outcome L w .bytes) (x .ticks) (r .ledger) ∙ ap values (p .ticks-are)
+            ∙ sym (p .string-is);
+      }
 
   pub demand3 : Demand3 L w
   demand3 =

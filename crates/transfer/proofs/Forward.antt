@@ -10,7 +10,10 @@ use Rattle.transfer.specs.Choice.{if_then_else_}
 use Rattle.transfer.specs.Offsets.{below, upTo}
 use Rattle.transfer.specs.Phases.{Move, Go, Hand, Stop, next, same, withBit, handover, afterBit}
 use Rattle.transfer.specs.Outcome.{Outcome}
-use Rattle.transfer.specs.Parties.{Pulls, pulls, nobody, held, clock, clockHeld, sets, offers, Bit, bit, lastOf, Frame, Sending, more, last, Plan, bitsTrack, handoverTrack, frameTrack, sendingTrack, track, bitsTicks, valueOf, byteOf, afterFrame, sendingBytes, planBytes, isZero, isPositive, less}
+use Rattle.transfer.specs.Parties.{Pulls, pulls, nobody, held, clock, clockHeld, sets, offers, Bit, bit, lastOf, Frame}
+use Rattle.transfer.specs.Parties.{Sending, more, last, Plan, bitsTrack, handoverTrack, frameTrack, sendingTrack, track}
+use Rattle.transfer.specs.Parties.{bitsTicks, valueOf, byteOf, afterFrame, sendingBytes, planBytes, isZero, isPositive}
+use Rattle.transfer.specs.Parties.{less}
 use Rattle.transfer.specs.Rules.{lastBit, BitRules, AllBits, FrameRules, SendingRules, PlanRules}
 use Rattle.transfer.specs.Pair.{SameOrLater}
 use Rattle.transfer.specs.Demand3.{Consistent}
@@ -18,7 +21,9 @@ use Rattle.transfer.specs.declared.limits.Limits.{Limits}
 use Rattle.transfer.specs.declared.lines.Lines.{Lines}
 use Rattle.transfer.specs.declared.phase.Byte.{Byte}
 use Rattle.transfer.specs.declared.phase.Phase.{Phase}
-use Rattle.transfer.specs.declared.phase.Phase.the-variants.{Start, FirstHold, Hold, ReadyToSend, ReadyForData, Acknowledgement, Acknowledged, SetUp, Valid, Open, Carried, End}
+use Rattle.transfer.specs.declared.phase.Phase.the-variants.{Start, FirstHold, Hold, ReadyToSend, ReadyForData}
+use Rattle.transfer.specs.declared.phase.Phase.the-variants.{Acknowledgement, Acknowledged, SetUp, Valid, Open, Carried}
+use Rattle.transfer.specs.declared.phase.Phase.the-variants.{End}
 use Rattle.transfer.specs.declared.verdict.Verdict.the-variants.{Complete}
 use Rattle.transfer.proofs.Run.{run, lines, onward, give, ended}
 use Rattle.transfer.proofs.ByteValue.{takenIn, eight-bits}
@@ -73,7 +78,8 @@ module _ (L : Limits) where
   unfolding run
   one-tick now p x c d w e = ap (λ (y : Move). onward y now (λ (q : Phase). run L (suc now) q w)) e
 
-  step : (now : ℕ) (p q : Phase) (c d : Bool) (w : List Lines) → next L now p c d ≡ Go q → run L now p (lines c d ∷ w) ≡ run L (suc now) q w
+  step : (now : ℕ) (p q : Phase) (c d : Bool) (w : List Lines) → next L now p c d ≡ Go q
+      → run L now p (lines c d ∷ w) ≡ run L (suc now) q w
   step now p q c d w e = one-tick now p (Go q) c d w e
 
   at-tick : (p : Phase) (w : List Lines) {a b : ℕ} → a ≡ b → run L a p w ≡ run L b p w
@@ -110,7 +116,8 @@ module _ (L : Limits) where
 
   -- A set-up's further ticks.
   along-set-up : (m : Bool) (left v s now : ℕ) (d : Bool) (ds : List Bool) (js : List Pulls) → now + length ds ≤ s + L .«set_up_most»
-      → run L now (SetUp m left v s d) (map shows (map sets ds ++ js)) ≡ run L (now + length ds) (SetUp m left v s (lastOf d ds)) (map shows js)
+      → run L now (SetUp m left v s d) (map shows (map sets ds ++ js))
+      ≡ run L (now + length ds) (SetUp m left v s (lastOf d ds)) (map shows js)
   unfolding next
   along-set-up m left v s now d [] js h = at-tick _ _ (omega arith)
   along-set-up m left v s now d (e ∷ ds) js h =
@@ -131,7 +138,8 @@ module _ (L : Limits) where
       ∙ at-tick _ _ (omega arith)
 
   -- The receiver holds DATA; the sender releases CLK, which hands the byte over; the receiver lets go.
-  lets-go : (p : Phase) (b : Byte) (m : Bool) (k now : ℕ) (js : List Pulls) → 1 ≤ k → next L now p false true ≡ Hand b (ReadyToSend true m)
+  lets-go : (p : Phase) (b : Byte) (m : Bool) (k now : ℕ) (js : List Pulls) → 1 ≤ k
+      → next L now p false true ≡ Hand b (ReadyToSend true m)
       → run L now p (map shows (replicate k held ++ js)) ≡ give b (run L (now + k) (ReadyToSend true m) (map shows js))
   unfolding next
   lets-go p b m zero now js one e = absurd (omega arith)
@@ -151,7 +159,8 @@ module _ (L : Limits) where
       ∙ ap (give b) (at-tick _ _ (omega arith))
 
   -- Open, with the take t ticks ahead and the release of CLK n ticks ahead.
-  along-open : (m : Bool) (v s l t n k now : ℕ) (js : List Pulls) → now + t ≤ s + L .«take_latest» → t < n → t + L .«between_bytes» ≤ n → 1 ≤ k
+  along-open : (m : Bool) (v s l t n k now : ℕ) (js : List Pulls) → now + t ≤ s + L .«take_latest» → t < n
+      → t + L .«between_bytes» ≤ n → 1 ≤ k
       → run L now (Open m v s l) (map shows (handoverTrack n 0 t ++ (replicate k held ++ js)))
       ≡ give (record { value = v; «let_go» = l; take = now + t }) (run L (now + n + k) (ReadyToSend true m) (map shows js))
   unfolding next
@@ -159,11 +168,13 @@ module _ (L : Limits) where
   along-open m v s l zero (suc n) k now js h a b one =
       step now (Open m v s l) (Hold (record { value = v; «let_go» = l; take = now }) m) true true _ refl
       ∙ along-hold (record { value = v; «let_go» = l; take = now }) m n k (suc now) js (omega arith) one
-      ∙ ap₂ (λ u e. give (record { value = v; «let_go» = l; take = u }) (run L e (ReadyToSend true m) (map shows js))) (omega arith) (omega arith)
+      ∙ ap₂ (λ u e. give (record { value = v; «let_go» = l; take = u }) (run L e (ReadyToSend true m) (map shows js)))
+      (omega arith) (omega arith)
   along-open m v s l (suc t) (suc n) k now js h a b one =
       step now (Open m v s l) (Open m v s l) true false _ (is-below _ _ _ _ _ (omega arith))
       ∙ along-open m v s l t n k (suc now) js (omega arith) (omega arith) (omega arith) one
-      ∙ ap₂ (λ u e. give (record { value = v; «let_go» = l; take = u }) (run L e (ReadyToSend true m) (map shows js))) (omega arith) (omega arith)
+      ∙ ap₂ (λ u e. give (record { value = v; «let_go» = l; take = u }) (run L e (ReadyToSend true m) (map shows js)))
+      (omega arith) (omega arith)
 
   -- Carried: both pull, or the receiver alone.
   carried-on : (m : Bool) (v s n l now : ℕ) (js : List Pulls)
@@ -174,7 +185,8 @@ module _ (L : Limits) where
       step now (Carried m v s) (Carried m v s) true true _ refl ∙ carried-on m v s n (less l) (suc now) js ∙ at-tick _ _ (omega arith)
 
   -- Carried, with the letting go l ticks ahead, the take t and the release of CLK n.
-  along-carried : (m : Bool) (v s t n l k now : ℕ) (js : List Pulls) → s < now → now + l ≤ s + L .«keep_most» → now + t ≤ s + L .«take_latest»
+  along-carried : (m : Bool) (v s t n l k now : ℕ) (js : List Pulls) → s < now → now + l ≤ s + L .«keep_most»
+      → now + t ≤ s + L .«take_latest»
       → t < n → t + L .«between_bytes» ≤ n → 1 ≤ k
       → Hands (run L now (Carried m v s) (map shows (handoverTrack n l t ++ (replicate k held ++ js))))
       (run L (now + n + k) (ReadyToSend true m) (map shows js)) (record { value = v; «let_go» = now + l; take = now + t })
@@ -184,7 +196,8 @@ module _ (L : Limits) where
         handed = record { value = v; «let_go» = s + 1; take = s + 1 };
         is =
             carried-on m v s n l now _
-            ∙ lets-go (Carried m v s) (record { value = v; «let_go» = s + 1; take = s + 1 }) m k (now + n) js one (not-upTo _ _ _ _ _ (omega arith));
+            ∙ lets-go (Carried m v s) (record { value = v; «let_go» = s + 1; take = s + 1 }) m k (now + n) js one
+            (not-upTo _ _ _ _ _ (omega arith));
         value = refl;
         let-go = omega arith;
         take = omega arith;
@@ -212,9 +225,11 @@ module _ (L : Limits) where
       }
 
   -- The handover: the CLK pull after bit 8 at tick e, and what follows.
-  along-handover : (m bit8 : Bool) (v e l t n k : ℕ) (js : List Pulls) → (bit8 ≡ false → l ≡ 0) → l ≤ L .«keep_most» → suc t ≤ L .«take_latest»
+  along-handover : (m bit8 : Bool) (v e l t n k : ℕ) (js : List Pulls) → (bit8 ≡ false → l ≡ 0) → l ≤ L .«keep_most»
+      → suc t ≤ L .«take_latest»
       → t < n → t + L .«between_bytes» ≤ n → 1 ≤ k
-      → Hands (onward (handover m v e bit8 (isPositive l)) e (λ (q : Phase). run L (suc e) q (map shows (handoverTrack n (less l) t ++ (replicate k held ++ js)))))
+      → Hands (onward (handover m v e bit8 (isPositive l)) e (λ (q : Phase). run L (suc e) q (map shows (handoverTrack n
+      (less l) t ++ (replicate k held ++ js)))))
       (run L (e + suc n + k) (ReadyToSend true m) (map shows js)) (record { value = v; «let_go» = e + l; take = e + suc t })
   unfolding handover
   along-handover m bit8 v e zero t n k js z a b c d one =
@@ -241,10 +256,12 @@ module _ (L : Limits) where
   module _ (times : Consistent L) where
     -- D up to a CLK pull or an acknowledgement, F and G.
     along-gap : (any : Bool) (gap now : ℕ) (js : List Pulls) → 1 ≤ gap → gap ≤ L .«end_mark_latest»
-        → run L now (ReadyToSend any false) (map shows (replicate gap nobody ++ js)) ≡ run L (now + gap) (ReadyForData any now) (map shows js)
+        → run L now (ReadyToSend any false) (map shows (replicate gap nobody ++ js))
+        ≡ run L (now + gap) (ReadyForData any now) (map shows js)
     unfolding next
     along-gap any gap now js a b =
-        enters (ReadyToSend any false) (ReadyForData any now) false false false gap now _ a refl (λ i x y. is-below _ _ _ _ _ (omega arith))
+        enters (ReadyToSend any false) (ReadyForData any now) false false false gap now _ a refl (λ i x y. is-below _ _ _ _ _
+        (omega arith))
 
     along-mark : (any : Bool) (gap ack resp now : ℕ) (js : List Pulls) → L .«end_mark» ≤ gap → gap ≤ L .«end_mark_latest»
         → L .«acknowledge_least» ≤ ack → ack ≤ L .«acknowledge_most» → 1 ≤ resp → resp ≤ L .response
@@ -253,9 +270,11 @@ module _ (L : Limits) where
     unfolding next
     along-mark any gap ack resp now js a b c d e f =
         along-gap any gap now _ (omega (arith, times .end-mark)) b
-        ∙ enters (ReadyForData any now) (Acknowledgement any now (now + gap)) false false true ack (now + gap) _ (omega (arith, times .acknowledge))
+        ∙ enters (ReadyForData any now) (Acknowledgement any now (now + gap)) false false true ack (now + gap) _ (omega
+        (arith, times .acknowledge))
         (not-below _ _ _ _ _ (omega arith)) (λ i x y. is-below _ _ _ _ _ (omega arith))
-        ∙ enters (Acknowledgement any now (now + gap)) (Acknowledged any now (now + gap + ack)) false false false resp (now + gap + ack) _ e
+        ∙ enters (Acknowledgement any now (now + gap)) (Acknowledged any now (now + gap + ack)) false false false resp
+        (now + gap + ack) _ e
         (not-below _ _ _ _ _ (omega arith)) (λ i x y. is-below _ _ _ _ _ (omega (arith, times .timeout)))
 
     -- Bits, from the tick after the first set-up tick to the CLK pull after the last of them, which shows DATA d.
@@ -277,7 +296,8 @@ module _ (L : Limits) where
         (SetUp m (length ys) (withBit v (bit x)) (now + suc (length (x .others) + x .valid)) (y .first)) true (y .first) _
         (not-below _ _ _ _ _ (omega (arith, rules .valid-least)))
         ∙ along-bits m (withBit v (bit x)) (now + suc (length (x .others) + x .valid)) y ys d js (all .0) (all .1)
-        ∙ ap (λ e. onward (handover m (takenIn v (x ∷ y ∷ ys)) e (lastBit (bit y) ys) d) e (λ (q : Phase). run L (suc e) q (map shows js))) (omega arith)
+        ∙ ap (λ e. onward (handover m (takenIn v (x ∷ y ∷ ys)) e (lastBit (bit y) ys) d) e (λ (q : Phase). run L (suc e) q
+        (map shows js))) (omega arith)
 
     -- A phase that a CLK pull at tick e leaves for the bits of a byte.
     abbrev Begins : Bool → ℕ → Phase → Type 0
@@ -298,14 +318,17 @@ module _ (L : Limits) where
     along-fields m p e (x ∷ xs) l (suc t) (suc n) k js b rules =
         let seven : length xs ≡ 7 = omega (arith, rules .eight) in
         let r =
-        along-handover m (lastBit (bit x) xs) (takenIn 0 (x ∷ xs)) (e + bitsTicks (x ∷ xs)) l t n k js (rules .let-go-zero) (rules .let-go)
-        (rules .take-most) (omega (arith, rules .release, times .keep-release, times .keep)) (omega (arith, rules .release)) (rules .wait) in
+        along-handover m (lastBit (bit x) xs) (takenIn 0 (x ∷ xs)) (e + bitsTicks (x ∷ xs)) l t n k js (rules .let-go-zero)
+        (rules .let-go)
+        (rules .take-most) (omega (arith, rules .release, times .keep-release, times .keep)) (omega (arith, rules .release))
+        (rules .wait) in
         record {
           handed = r .handed;
           is =
               step e p (SetUp m 7 0 e (x .first)) true (x .first) _ (b (x .first))
               ∙ seven-left m e (x .first) _ seven
-              ∙ along-bits m 0 e x xs (isPositive l) (handoverTrack n (less l) t ++ (replicate k held ++ js)) (rules .bits .0) (rules .bits .1)
+              ∙ along-bits m 0 e x xs (isPositive l) (handoverTrack n (less l) t ++ (replicate k held ++ js)) (rules .bits .0)
+              (rules .bits .1)
               ∙ r .is;
           value = r .value ∙ eight-bits (x ∷ xs) (rules .eight);
           let-go = r .let-go;
@@ -316,14 +339,20 @@ module _ (L : Limits) where
         → Hands (run L e p (map shows (frameTrack f js))) (run L (afterFrame e f) (ReadyToSend true m) (map shows js)) (byteOf e f)
     along-frame m p e f js b rules = along-fields m p e (f .bits) (f .let-go) (f .take) (f .release) (f .wait) js b rules
 
-    along-end : (silence now : ℕ) → 1 ≤ silence → run L now (ReadyToSend true true) (map shows (replicate silence nobody)) ≡ ended (End now) now
+    along-end : (silence now : ℕ) → 1 ≤ silence
+        → run L now (ReadyToSend true true) (map shows (replicate silence nobody)) ≡ ended (End now) now
     unfolding next run
     along-end n now one =
-        rw (← (append-nil (replicate n nobody))) (enters (ReadyToSend true true) (End now) false false false n now [] one refl (λ i x y. refl))
+        rw (← (append-nil (replicate n nobody))) (enters (ReadyToSend true true) (End now) false false false n now [] one refl
+        (λ i x y. refl))
 
     complete-on : {o r : Outcome} {b : Byte} {rest : List Byte} → Hands o r b → CompleteBy r rest → CompleteBy o (b ∷ rest)
     complete-on {b = b} {rest = rest} h k =
-        subst⁻¹ (λ o. CompleteBy o (b ∷ rest)) (h .is) (record { verdict = k .verdict; ledger = (h .value, h .let-go, h .take, k .ledger) })
+        subst⁻¹ (λ o. CompleteBy o (b ∷ rest)) (h .is) (record {
+          verdict = k .verdict;
+          ledger =
+              (h .value, h .let-go, h .take, k .ledger);
+        })
 
     along-sending : (any : Bool) (now : ℕ) (s : Sending) → SendingRules L s
         → CompleteBy (run L now (ReadyToSend any false) (map shows (sendingTrack s))) (sendingBytes now s)
@@ -337,7 +366,8 @@ module _ (L : Limits) where
     along-sending any now (last gap ack resp f silence) r =
         complete-on
         (then-hands
-        (along-mark any gap ack resp now _ (r .gap-least) (r .gap-most) (r .acknowledgement-least) (r .acknowledgement-most) (r .response-least)
+        (along-mark any gap ack resp now _ (r .gap-least) (r .gap-most) (r .acknowledgement-least) (r .acknowledgement-most)
+        (r .response-least)
         (r .response-most))
         (along-frame true (Acknowledged any now (now + gap + ack)) (now + gap + ack + resp) f _
         (λ d. is-upTo _ _ _ _ _ (omega (arith, r .response-most))) (r .frame)))
@@ -346,5 +376,6 @@ module _ (L : Limits) where
     -- A plan that keeps the rules is read as complete, with the plan's bytes and each tick the plan's or an earlier one.
     pub along : (p : Plan) → PlanRules L p → CompleteBy (run L 0 Start (map shows (track p))) (planBytes p)
     along p rules =
-        subst⁻¹ (λ o. CompleteBy o (planBytes p)) (along-start (p .found) (p .hold) (p .wait) _ (rules .found) (rules .hold) (rules .wait))
+        subst⁻¹ (λ o. CompleteBy o (planBytes p)) (along-start (p .found) (p .hold) (p .wait) _ (rules .found) (rules .hold)
+        (rules .wait))
         (along-sending false _ (p .sending) (rules .sending))

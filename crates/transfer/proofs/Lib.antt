@@ -9,3 +9,4 @@ pub mod Plans
 pub mod Backward
 pub mod Shown
 pub mod Demand3
+pub mod Endings

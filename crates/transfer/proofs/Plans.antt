@@ -7,13 +7,17 @@ use mathlib.Core.Bool.{Bool, true, false}
 use mathlib.Core.List.{List, [], _∷_, _++_, map}
 use lib.ListN.{length, replicate}
 use Rattle.transfer.specs.Phases.{withBit}
-use Rattle.transfer.specs.Parties.{Pulls, pulls, nobody, held, clock, clockHeld, clockKept, sets, offers, Bit, lastOf, Frame, Sending, more, last, bitsTrack, handoverTrack, frameTrack, bitsTicks, valueOf, byteOf, afterFrame, sendingBytes}
+use Rattle.transfer.specs.Parties.{Pulls, pulls, nobody, held, clock, clockHeld, clockKept, sets, offers, Bit, lastOf}
+use Rattle.transfer.specs.Parties.{Frame, Sending, more, last, bitsTrack, handoverTrack, frameTrack, bitsTicks, valueOf}
+use Rattle.transfer.specs.Parties.{byteOf, afterFrame, sendingBytes}
 use Rattle.transfer.specs.Rules.{lastBit, BitRules, AllBits, FrameRules, MoreRules, LastRules}
 use Rattle.transfer.specs.Demand3.{Consistent}
 use Rattle.transfer.specs.declared.limits.Limits.{Limits}
 use Rattle.transfer.specs.declared.phase.Byte.{Byte}
 use Rattle.transfer.proofs.ByteValue.{takenIn, eight-bits}
-use Rattle.transfer.proofs.Shapes.{Rest, Stays, First, Many, many, joined, Tidy, Sends, Silent, AfterC, HandsOver, Holds, Opened, Carries, Handover, opens, carries, ValidTicks, SetUpTicks, Bits, Responds, Acknowledges, AfterD}
+use Rattle.transfer.proofs.Shapes.{Rest, Stays, First, Many, many, joined, Tidy, Sends, Silent, AfterC, HandsOver, Holds}
+use Rattle.transfer.proofs.Shapes.{Opened, Carries, Handover, opens, carries, ValidTicks, SetUpTicks, Bits, Responds}
+use Rattle.transfer.proofs.Shapes.{Acknowledges, AfterD}
 
 -- l ticks with the sender on DATA, t with nobody on it, k with the receiver.
 pub handover-is : (l t k u n : ℕ) (js : List Pulls) → l + t ≡ u → u + k ≡ n
@@ -26,7 +30,8 @@ handover-is zero (suc t) k (suc u) zero js a b = absurd (omega arith)
 handover-is zero (suc t) k (suc u) (suc n) js a b = ap (λ x. clock ∷ x) (handover-is zero t k u n js (omega arith) (omega arith))
 handover-is zero zero (suc k) (suc u) n js a b = absurd (omega arith)
 handover-is zero zero (suc k) zero zero js a b = absurd (omega arith)
-handover-is zero zero (suc k) zero (suc n) js a b = ap (λ x. clockHeld ∷ x) (handover-is zero zero k zero n js (omega arith) (omega arith))
+handover-is zero zero (suc k) zero (suc n) js a b = ap (λ x. clockHeld ∷ x) (handover-is zero zero k zero n js (omega arith)
+    (omega arith))
 handover-is zero zero zero u (suc n) js a b = absurd (omega arith)
 handover-is zero zero zero u zero js a b = refl
 
@@ -54,7 +59,8 @@ module _ (L : Limits) where
   handover-of : (mark bit8 : Bool) (value e a t take let-go : ℕ) (js js′ : List Pulls) (l : List Byte)
       → js ≡ replicate a clockKept ++ (replicate t clock ++ js′) → e + a ≡ let-go → a + t ≡ take → 1 ≤ take → take ≤ L .«take_latest»
       → a ≤ L .«keep_most» → (bit8 ≡ false → a ≡ 0)
-      → Stays clockHeld (HandsOver L (record { value = value; «let_go» = let-go; take = e + take }) mark (e + take + L .«between_bytes»)) (e + take) js′ l
+      → Stays clockHeld (HandsOver L (record { value = value; «let_go» = let-go; take = e + take }) mark
+      (e + take + L .«between_bytes»)) (e + take) js′ l
       → HandoverPlan mark bit8 value e js l
   handover-of mark bit8 value e a t take let-go js js′ l split at sum some most keep zero-bit h =
       let w = many (h .after .after) in
@@ -91,7 +97,8 @@ module _ (L : Limits) where
         handover-of mark bit8 value e 0 (c .count) (c .count) e js (c .rest) l (c .splits) (omega arith) (omega arith) (c .some)
         (omega (arith, c .ends, c .after .0)) (omega arith) (λ z. refl)
         (subst⁻¹
-        (λ (x : ℕ). Stays clockHeld (HandsOver L (record { value = value; «let_go» = e; take = x }) mark (x + L .«between_bytes»)) x (c .rest) l)
+        (λ (x : ℕ). Stays clockHeld (HandsOver L (record { value = value; «let_go» = e; take = x }) mark
+        (x + L .«between_bytes»)) x (c .rest) l)
         (c .ends) (joined (c .after .1)))
     handover-plan mark bit8 value e js l (carries b f) = at (f .after)
       where
@@ -106,12 +113,14 @@ module _ (L : Limits) where
             (a .splits ∙ ap (λ x. replicate (a .count) clockKept ++ x) (c .splits)) (a .ends) refl (omega (arith, c .some))
             (omega (arith, c .ends, a .ends, c .after .0)) (omega (arith, a .ends, a .after .0)) (no-zero (a .count))
             (subst⁻¹
-            (λ (x : ℕ). Stays clockHeld (HandsOver L (record { value = value; «let_go» = a .till; take = x }) mark (x + L .«between_bytes»)) x (c .rest) l)
+            (λ (x : ℕ). Stays clockHeld (HandsOver L (record { value = value; «let_go» = a .till; take = x }) mark
+            (x + L .«between_bytes»)) x (c .rest) l)
             (omega (arith, c .ends, a .ends)) (joined (c .after .1)))
         at (inr h) =
             handover-of mark bit8 value e 1 0 1 (e + 1) js (f .rest) l (f .splits) refl refl (omega arith)
             (omega (arith, times .keep-take)) (times .keep) (no-zero 1)
-            (subst₂ (λ (x y : ℕ). Stays clockHeld (HandsOver L (record { value = value; «let_go» = e + 1; take = e + 1 }) mark y) x (f .rest) l)
+            (subst₂ (λ (x y : ℕ). Stays clockHeld (HandsOver L
+            (record { value = value; «let_go» = e + 1; take = e + 1 }) mark y) x (f .rest) l)
             (omega arith) (omega arith) h)
 
     -- Bits, and the handover after them.
@@ -125,7 +134,8 @@ module _ (L : Limits) where
       is : js ≡ bitsTrack bits rest
       after : HandoverPlan mark (lastBit b bits) (takenIn value bits) till rest l
 
-    bits-plan : (mark b : Bool) (left value e : ℕ) (js : List Pulls) (l : List Byte) → Bits L mark left value b e js l → BitsPlan mark b left value e js l
+    bits-plan : (mark b : Bool) (left value e : ℕ) (js : List Pulls) (l : List Byte) → Bits L mark left value b e js l
+        → BitsPlan mark b left value e js l
     bits-plan mark b zero value e js l h =
         record {
           bits = [];
@@ -253,11 +263,13 @@ module _ (L : Limits) where
     sends now js l f = let g = many f in at g (g .after)
       where
         at : (g : Many nobody (AfterD L now) now js l) → AfterD L now (g .till) (g .rest) l → Sends L now js l
-        at g (inl h) = sends-more now (g .count) (g .till) js (g .rest) l (g .some) (g .ends) (h .0) (g .splits) (frame-plan false (g .till) (g .rest) l (h .1))
+        at g (inl h) = sends-more now (g .count) (g .till) js (g .rest) l (g .some) (g .ends) (h .0) (g .splits)
+            (frame-plan false (g .till) (g .rest) l (h .1))
         at g (inr h) =
             let a = many (h .2) in
             let r = many (a .after .2) in
-            sends-last now (g .count) (a .count) (r .count) (r .till) js (r .rest) l (omega (arith, g .ends, h .0)) (omega (arith, g .ends, h .1))
+            sends-last now (g .count) (a .count) (r .count) (r .till) js (r .rest) l (omega (arith, g .ends, h .0)) (omega
+            (arith, g .ends, h .1))
             (omega (arith, a .ends, a .after .0)) (omega (arith, a .ends, a .after .1)) (r .some) (omega (arith, r .ends, r .after .0))
             (omega (arith, g .ends, a .ends, r .ends))
             (g .splits ∙ ap (λ x. replicate (g .count) nobody ++ x) (a .splits ∙ ap (λ x. replicate (a .count) held ++ x) (r .splits)))

@@ -48,7 +48,8 @@ module _ (L : Limits) where
     one-tick p = by-atn (l .atn)
       where
         by-atn : (a : Bool)
-            → 19 * length ((if a then decided Attention now else onward (next L now p (l .clk) (l .«data»)) now (λ (q : Phase). run L (suc now) q w)) .bytes)
+            → 19 * length ((if a then decided Attention now
+            else onward (next L now p (l .clk) (l .«data»)) now (λ (q : Phase). run L (suc now) q w)) .bytes)
             ≤ n + (place p + further (settled p (l .clk) (l .«data»)))
         by-atn true = omega arith
         by-atn false = one-move _ (climbs L now p (l .clk) (l .«data»))
@@ -107,7 +108,8 @@ module _ (L : Limits) where
     where
       by-test : (t : Bool) → eqb (nextState L s l .count) (s .count) ≡ t
           → stateAfter L (nextState L s l) w .count ≡ nextState L s l .count + length (handedOver L (nextState L s l) w)
-          → stateAfter L (nextState L s l) w .count ≡ s .count + length ((if t then [] else (nextState L s l .handed ∷ [])) ++ handedOver L (nextState L s l) w)
+          → stateAfter L (nextState L s l) w .count
+          ≡ s .count + length ((if t then [] else (nextState L s l .handed ∷ [])) ++ handedOver L (nextState L s l) w)
       by-test true e ih = omega (arith, eqb-true (nextState L s l .count) (s .count) e)
       by-test false e ih =
           let c = tick-counts s l in
@@ -116,6 +118,7 @@ module _ (L : Limits) where
   pub room : (steps : List Step) → RoomLaw L steps
   unfolding outcome
   room steps = record {
-    handed-over = subst (λ (o : Outcome). 19 * length (o .bytes) ≤ length steps) (sym (outcome-is L (ticks steps))) (omega (arith, fits steps 0 Start));
+    handed-over = subst (λ (o : Outcome). 19 * length (o .bytes) ≤ length steps) (sym (outcome-is L (ticks steps))) (omega
+        (arith, fits steps 0 Start));
     counted = omega (arith, counts (ticks steps) firstState);
   }

@@ -17,7 +17,9 @@ use Rattle.transfer.specs.declared.limits.Limits.{Limits}
 use Rattle.transfer.specs.declared.lines.Lines.{Lines}
 use Rattle.transfer.specs.declared.phase.Byte.{Byte}
 use Rattle.transfer.specs.declared.phase.Phase.{Phase}
-use Rattle.transfer.specs.declared.phase.Phase.the-variants.{Start, FirstHold, Hold, ReadyToSend, ReadyForData, Acknowledgement, Acknowledged, SetUp, Valid, Open, Carried, End, Decided}
+use Rattle.transfer.specs.declared.phase.Phase.the-variants.{Start, FirstHold, Hold, ReadyToSend, ReadyForData}
+use Rattle.transfer.specs.declared.phase.Phase.the-variants.{Acknowledgement, Acknowledged, SetUp, Valid, Open, Carried}
+use Rattle.transfer.specs.declared.phase.Phase.the-variants.{End, Decided}
 use Rattle.transfer.specs.declared.state.State.{State}
 use Rattle.transfer.specs.declared.verdict.Fault.{Fault}
 use Rattle.transfer.specs.declared.verdict.Fault.the-variants.{Attention}
@@ -113,7 +115,8 @@ module _ (L : Limits) where
         one-handed s (follow s (Hand b p)) w (λ z. omega (arith, z)) ∙ ap (give b) (next-run p _ _ c d e)
 
     by-atn : (u : isDecided (s .phase) ≡ false) (l : Lines) (a : Bool) → l .atn ≡ a
-        → outcomeFrom L s (l ∷ w) ≡ (if a then decided Attention (s .tick) else onward (next L (s .tick) (s .phase) (l .clk) (l .«data»)) (s .tick) beyond)
+        → outcomeFrom L s (l ∷ w) ≡ (if a then decided Attention (s .tick)
+        else onward (next L (s .tick) (s .phase) (l .clk) (l .«data»)) (s .tick) beyond)
     unfolding nextState
     by-atn u l true e = tick-read s (follow s (Stop Attention)) l w (rw (u, e)) ∙ stopped Attention s w
     by-atn u l false e =

@@ -7,7 +7,9 @@ use mathlib.Core.List.{List, [], _∷_, _++_, map}
 use lib.ListN.{length, replicate}
 use lib.Dec.{ltb}
 use borrow.Author.Tests.{lt-ltb, le-ltb}
-use Rattle.transfer.specs.Parties.{Pulls, pulls, nobody, held, clock, clockHeld, clockKept, sets, offers, Bit, bit, Frame, Sending, more, last, Plan, bitsTrack, handoverTrack, frameTrack, sendingTrack, track, bitsTicks, byteOf, afterFrame, sendingBytes, planBytes}
+use Rattle.transfer.specs.Parties.{Pulls, pulls, nobody, held, clock, clockHeld, clockKept, sets, offers, Bit, bit, Frame}
+use Rattle.transfer.specs.Parties.{Sending, more, last, Plan, bitsTrack, handoverTrack, frameTrack, sendingTrack, track}
+use Rattle.transfer.specs.Parties.{bitsTicks, byteOf, afterFrame, sendingBytes, planBytes}
 use Rattle.transfer.specs.Rules.{FrameRules, SendingRules, PlanRules}
 use Rattle.transfer.specs.Pair.{Turn, holding, waiting, sending, turnAt, pullsIn, shownFrom, shown}
 use Rattle.transfer.specs.Demand3.{Consistent}
@@ -62,7 +64,8 @@ module _ (b : Byte) (l : List Byte) where
   unfolding shownFrom
   sends now c d w h = rw (lt-ltb now (b .«let_go») h)
 
-  begins : (now : ℕ) (d : Bool) (w : List Lines) → shownFrom now (waiting (b ∷ l)) (lines true d ∷ w) ≡ pulls true d false ∷ shownFrom (suc now) (sending b l) w
+  begins : (now : ℕ) (d : Bool) (w : List Lines)
+      → shownFrom now (waiting (b ∷ l)) (lines true d ∷ w) ≡ pulls true d false ∷ shownFrom (suc now) (sending b l) w
   unfolding shownFrom
   begins now d w = refl
 
@@ -72,7 +75,8 @@ module _ (b : Byte) (l : List Byte) where
   lets-go now d w h = rw (le-ltb now (b .«let_go») h)
 
   sends-set-up : (ds : List Bool) (now : ℕ) (js : List Pulls) → now + length ds ≤ b .«let_go»
-      → shownFrom now (sending b l) (map shows (map sets ds ++ js)) ≡ map sets ds ++ shownFrom (now + length ds) (sending b l) (map shows js)
+      → shownFrom now (sending b l) (map shows (map sets ds ++ js))
+      ≡ map sets ds ++ shownFrom (now + length ds) (sending b l) (map shows js)
   sends-set-up [] now js h = at-tick (sending b l) (map shows js) (omega arith)
   sends-set-up (d ∷ ds) now js h =
       sends now true d _ (omega arith)
@@ -80,19 +84,22 @@ module _ (b : Byte) (l : List Byte) where
       (sends-set-up ds (suc now) js (omega arith) ∙ ap (λ x. map sets ds ++ x) (at-tick (sending b l) (map shows js) (omega arith)))
 
   sends-valid : (d : Bool) (k now : ℕ) (js : List Pulls) → now + k ≤ b .«let_go»
-      → shownFrom now (sending b l) (map shows (replicate k (offers d) ++ js)) ≡ replicate k (offers d) ++ shownFrom (now + k) (sending b l) (map shows js)
+      → shownFrom now (sending b l) (map shows (replicate k (offers d) ++ js))
+      ≡ replicate k (offers d) ++ shownFrom (now + k) (sending b l) (map shows js)
   sends-valid d k now js h = stays (sending b l) false d false k now js (λ i x y w. sends i false d w (omega arith))
 
   -- A bit after its first set-up tick, and all bits that follow.
   sends-bit : (x : Bit) (now : ℕ) (js : List Pulls) → now + length (x .others) + x .valid ≤ b .«let_go»
       → shownFrom now (sending b l) (map shows (map sets (x .others) ++ (replicate (x .valid) (offers (bit x)) ++ js)))
-      ≡ map sets (x .others) ++ (replicate (x .valid) (offers (bit x)) ++ shownFrom (now + length (x .others) + x .valid) (sending b l) (map shows js))
+      ≡ map sets (x .others) ++ (replicate (x .valid) (offers (bit x)) ++ shownFrom (now + length (x .others) + x .valid)
+      (sending b l) (map shows js))
   sends-bit x now js h =
       sends-set-up (x .others) now _ (omega arith)
       ∙ ap (λ y. map sets (x .others) ++ y) (sends-valid (bit x) (x .valid) (now + length (x .others)) js (omega arith))
 
   sends-bits : (xs : List Bit) (now : ℕ) (js : List Pulls) → now + bitsTicks xs ≤ b .«let_go»
-      → shownFrom now (sending b l) (map shows (bitsTrack xs js)) ≡ bitsTrack xs (shownFrom (now + bitsTicks xs) (sending b l) (map shows js))
+      → shownFrom now (sending b l) (map shows (bitsTrack xs js))
+      ≡ bitsTrack xs (shownFrom (now + bitsTicks xs) (sending b l) (map shows js))
   sends-bits [] now js h = at-tick (sending b l) (map shows js) (omega arith)
   sends-bits (x ∷ xs) now js h =
       sends now true (x .first) _ (omega arith)
@@ -104,16 +111,20 @@ module _ (b : Byte) (l : List Byte) where
 
   -- The handover: once the sender has let go, CLK stays pulled.
   holds-handover : (t n now : ℕ) (js : List Pulls)
-      → shownFrom now (holding l) (map shows (handoverTrack n 0 t ++ js)) ≡ handoverTrack n 0 t ++ shownFrom (now + n) (holding l) (map shows js)
+      → shownFrom now (holding l) (map shows (handoverTrack n 0 t ++ js))
+      ≡ handoverTrack n 0 t ++ shownFrom (now + n) (holding l) (map shows js)
   unfolding shownFrom
   holds-handover t zero now js = at-tick (holding l) (map shows js) (omega arith)
   holds-handover zero (suc n) now js =
-      ap (λ x. clockHeld ∷ x) (holds-handover zero n (suc now) js ∙ ap (λ x. handoverTrack n 0 0 ++ x) (at-tick (holding l) (map shows js) (omega arith)))
+      ap (λ x. clockHeld ∷ x) (holds-handover zero n (suc now) js
+      ∙ ap (λ x. handoverTrack n 0 0 ++ x) (at-tick (holding l) (map shows js) (omega arith)))
   holds-handover (suc t) (suc n) now js =
-      ap (λ x. clock ∷ x) (holds-handover t n (suc now) js ∙ ap (λ x. handoverTrack n 0 t ++ x) (at-tick (holding l) (map shows js) (omega arith)))
+      ap (λ x. clock ∷ x) (holds-handover t n (suc now) js
+      ∙ ap (λ x. handoverTrack n 0 t ++ x) (at-tick (holding l) (map shows js) (omega arith)))
 
   sends-handover : (k t n now : ℕ) (js : List Pulls) → b .«let_go» ≡ now + k → k ≤ t → t < n
-      → shownFrom now (sending b l) (map shows (handoverTrack n k t ++ js)) ≡ handoverTrack n k t ++ shownFrom (now + n) (holding l) (map shows js)
+      → shownFrom now (sending b l) (map shows (handoverTrack n k t ++ js))
+      ≡ handoverTrack n k t ++ shownFrom (now + n) (holding l) (map shows js)
   sends-handover k t zero now js e h a = absurd (omega arith)
   sends-handover zero zero (suc n) now js e h a = lets-go now true _ (omega arith) ∙ holds-handover 0 (suc n) now js
   sends-handover zero (suc t) (suc n) now js e h a = lets-go now false _ (omega arith) ∙ holds-handover (suc t) (suc n) now js
@@ -129,7 +140,8 @@ module _ (L : Limits) (times : Consistent L) where
   shows-fields : (bits : List Bit) (k t n wait now : ℕ) (l : List Byte) (js : List Pulls)
       → let f : Frame = record { bits = bits; let-go = k; take = t; release = n; wait = wait } in
       FrameRules L f → k ≤ t
-      → shownFrom now (waiting (byteOf now f ∷ l)) (map shows (frameTrack f js)) ≡ frameTrack f (shownFrom (afterFrame now f) (waiting l) (map shows js))
+      → shownFrom now (waiting (byteOf now f ∷ l)) (map shows (frameTrack f js))
+      ≡ frameTrack f (shownFrom (afterFrame now f) (waiting l) (map shows js))
   shows-fields [] k t n wait now l js rules tidy = absurd (omega (arith, rules .eight))
   shows-fields (x ∷ xs) k t n wait now l js rules tidy =
       let b = byteOf now (record { bits = x ∷ xs; let-go = k; take = t; release = n; wait = wait }) in
@@ -145,7 +157,8 @@ module _ (L : Limits) (times : Consistent L) where
       ∙ ap (λ y. replicate wait held ++ y) (at-tick (waiting l) (map shows js) (omega arith))))))
 
   shows-frame : (f : Frame) (now : ℕ) (l : List Byte) (js : List Pulls) → FrameRules L f → f .let-go ≤ f .take
-      → shownFrom now (waiting (byteOf now f ∷ l)) (map shows (frameTrack f js)) ≡ frameTrack f (shownFrom (afterFrame now f) (waiting l) (map shows js))
+      → shownFrom now (waiting (byteOf now f ∷ l)) (map shows (frameTrack f js))
+      ≡ frameTrack f (shownFrom (afterFrame now f) (waiting l) (map shows js))
   shows-frame f now l js rules tidy = shows-fields (f .bits) (f .let-go) (f .take) (f .release) (f .wait) now l js rules tidy
 
   shows-end : (n now : ℕ) → shownFrom now (waiting []) (map shows (replicate n nobody)) ≡ replicate n nobody

@@ -6,7 +6,7 @@ use mathlib.Core.Bool.{Bool, true, false}
 use borrow.Author.Tests.{eq-eqb, ne-eqb}
 use Rattle.transfer.specs.Offsets.{below, upTo}
 use Rattle.transfer.specs.Phases.{Move, same, afterBit}
-use Rattle.transfer.specs.Reading.{readIn, decisionOf, isDecided}
+use Rattle.transfer.specs.Reading.{readIn, decisionOf}
 use Rattle.transfer.specs.declared.lines.Lines.{Lines}
 use Rattle.transfer.specs.declared.limits.Limits.{Limits}
 use Rattle.transfer.specs.declared.state.State.{State}
@@ -58,11 +58,24 @@ told L s l e = sym (ap (λ (p : Phase). readIn L s p l) e)
 pub decision-told : (tick : ℕ) {p q : Phase} → p ≡ q → decisionOf q tick ≡ decisionOf p tick
 decision-told tick e = sym (ap (λ (p : Phase). decisionOf p tick) e)
 
-pub decided-told : {p q : Phase} → p ≡ q → isDecided q ≡ isDecided p
-decided-told e = sym (ap isDecided e)
-
 -- A call's result is what the definition tests.
 pub via : {b r v : Bool} → r ≡ b → r ≡ v → b ≡ v
 via e f = sym e ∙ f
 
-pub ruleset tests = (clk-on, clk-off, data-on, data-off, below-on, below-off, upTo-on, upTo-off, same-on, same-off, last-bit, more-bits, via, eq-eqb, ne-eqb)
+pub ruleset tests = (
+  clk-on,
+  clk-off,
+  data-on,
+  data-off,
+  below-on,
+  below-off,
+  upTo-on,
+  upTo-off,
+  same-on,
+  same-off,
+  last-bit,
+  more-bits,
+  via,
+  eq-eqb,
+  ne-eqb,
+)

@@ -9,9 +9,15 @@ use Rattle.transfer.specs.Offsets.{below, upTo}
 use Rattle.transfer.specs.declared.limits.Limits.{Limits}
 use Rattle.transfer.specs.declared.phase.Byte.{Byte}
 use Rattle.transfer.specs.declared.phase.Phase.{Phase}
-use Rattle.transfer.specs.declared.phase.Phase.the-variants.{Start, FirstHold, Hold, ReadyToSend, ReadyForData, Acknowledgement, Acknowledged, SetUp, Valid, Open, Carried, End, Decided}
+use Rattle.transfer.specs.declared.phase.Phase.the-variants.{Start, FirstHold, Hold, ReadyToSend, ReadyForData}
+use Rattle.transfer.specs.declared.phase.Phase.the-variants.{Acknowledgement, Acknowledged, SetUp, Valid, Open, Carried}
+use Rattle.transfer.specs.declared.phase.Phase.the-variants.{End, Decided}
 use Rattle.transfer.specs.declared.verdict.Fault.{Fault}
-use Rattle.transfer.specs.declared.verdict.Fault.the-variants.{EmptyStream, NoReceiver, BadStart, OutOfTurn, EndMarkNotAcknowledged, AcknowledgementShort, AcknowledgementLong, LateClock, SenderTimeout, ValidTimeShort, DataMoved, ClockStall, ReceiverTimeout, Hurried, MovedAfterEnd}
+use Rattle.transfer.specs.declared.verdict.Fault.the-variants.{EmptyStream, NoReceiver, BadStart, OutOfTurn}
+use Rattle.transfer.specs.declared.verdict.Fault.the-variants.{EndMarkNotAcknowledged, AcknowledgementShort}
+use Rattle.transfer.specs.declared.verdict.Fault.the-variants.{AcknowledgementLong, LateClock, SenderTimeout}
+use Rattle.transfer.specs.declared.verdict.Fault.the-variants.{ValidTimeShort, DataMoved, ClockStall, ReceiverTimeout}
+use Rattle.transfer.specs.declared.verdict.Fault.the-variants.{Hurried, MovedAfterEnd}
 
 -- What one tick does: go to a phase or stay in it, hand a byte over and go to a phase, or decide.
 pub data Move : Type 0 where

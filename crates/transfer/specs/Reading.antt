@@ -3,14 +3,16 @@ use Prim.Native.Nat.{ℕ, _+_, _<_, _^_}
 use mathlib.Core.Bool.{Bool, true, false}
 use Rattle.transfer.specs.Choice.{if_then_else_}
 use Rattle.transfer.specs.Phases.{Move, Go, Hand, Stop, next}
+use Rattle.transfer.specs.Verdicts.{completeAt, cutAt, brokenAt}
 use Rattle.transfer.specs.declared.limits.Limits.{Limits}
 use Rattle.transfer.specs.declared.lines.Lines.{Lines}
 use Rattle.transfer.specs.declared.phase.Phase.{Phase}
-use Rattle.transfer.specs.declared.phase.Phase.the-variants.{Start, FirstHold, Hold, ReadyToSend, ReadyForData, Acknowledgement, Acknowledged, SetUp, Valid, Open, Carried, End, Decided}
+use Rattle.transfer.specs.declared.phase.Phase.the-variants.{Start, FirstHold, Hold, ReadyToSend, ReadyForData}
+use Rattle.transfer.specs.declared.phase.Phase.the-variants.{Acknowledgement, Acknowledged, SetUp, Valid, Open, Carried}
+use Rattle.transfer.specs.declared.phase.Phase.the-variants.{End, Decided}
 use Rattle.transfer.specs.declared.state.State.{State}
 use Rattle.transfer.specs.declared.verdict.Decision.{Decision}
 use Rattle.transfer.specs.declared.verdict.Fault.the-variants.{Attention}
-use Rattle.transfer.specs.declared.verdict.Verdict.the-variants.{Complete, Cut, Broken}
 
 -- Before tick 0.
 abbrev pub firstState : State
@@ -52,19 +54,19 @@ nextState L s lines =
 -- "The recording running out gives 20 in E, 22 anywhere else." 20 carries the finish tick, 22 the total of ticks, any
 -- other verdict the tick that decided.
 abbrev pub decisionOf : Phase → (tick : ℕ) → Decision
-decisionOf Start tick = record { verdict = Cut; tick = tick }
-decisionOf FirstHold tick = record { verdict = Cut; tick = tick }
-decisionOf (Hold byte mark) tick = record { verdict = Cut; tick = tick }
-decisionOf (ReadyToSend any ended) tick = record { verdict = Cut; tick = tick }
-decisionOf (ReadyForData any since) tick = record { verdict = Cut; tick = tick }
-decisionOf (Acknowledgement any ready since) tick = record { verdict = Cut; tick = tick }
-decisionOf (Acknowledged any ready since) tick = record { verdict = Cut; tick = tick }
-decisionOf (SetUp mark left value since last) tick = record { verdict = Cut; tick = tick }
-decisionOf (Valid mark left value since bit) tick = record { verdict = Cut; tick = tick }
-decisionOf (Open mark value since let-go) tick = record { verdict = Cut; tick = tick }
-decisionOf (Carried mark value since) tick = record { verdict = Cut; tick = tick }
-decisionOf (End finish) tick = record { verdict = Complete; tick = finish }
-decisionOf (Decided fault) tick = record { verdict = Broken fault; tick = tick }
+decisionOf Start tick = cutAt tick
+decisionOf FirstHold tick = cutAt tick
+decisionOf (Hold byte mark) tick = cutAt tick
+decisionOf (ReadyToSend any ended) tick = cutAt tick
+decisionOf (ReadyForData any since) tick = cutAt tick
+decisionOf (Acknowledgement any ready since) tick = cutAt tick
+decisionOf (Acknowledged any ready since) tick = cutAt tick
+decisionOf (SetUp mark left value since last) tick = cutAt tick
+decisionOf (Valid mark left value since bit) tick = cutAt tick
+decisionOf (Open mark value since let-go) tick = cutAt tick
+decisionOf (Carried mark value since) tick = cutAt tick
+decisionOf (End finish) tick = completeAt finish
+decisionOf (Decided fault) tick = brokenAt fault tick
 
 -- The next tick and the next count are 32-bit numbers.
 pub record Countable (s : State) : Type 0 where

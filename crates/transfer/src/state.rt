@@ -151,38 +151,10 @@ impl State {
         ensures { λ r. ⌜ r ≡ isDecided (self .phase) ⌝ }
     {
         let phase = self.phase;
-        match phase {
-            Phase::Start => false,
-            Phase::FirstHold => false,
-            Phase::Hold { byte, mark } => false,
-            Phase::ReadyToSend { any, ended } => false,
-            Phase::ReadyForData { any, since } => false,
-            Phase::Acknowledgement { any, ready, since } => false,
-            Phase::Acknowledged { any, ready, since } => false,
-            Phase::SetUp {
-                mark,
-                left,
-                value,
-                since,
-                last,
-            } => false,
-            Phase::Valid {
-                mark,
-                left,
-                value,
-                since,
-                bit,
-            } => false,
-            Phase::Open {
-                mark,
-                value,
-                since,
-                let_go,
-            } => false,
-            Phase::Carried { mark, value, since } => false,
-            Phase::End { finish } => false,
-            Phase::Decided { fault } => true,
+        if let Phase::Decided { .. } = phase {
+            return true;
         }
+        false
     }
 
     // What the recording comes to if it runs out here.
@@ -191,76 +163,12 @@ impl State {
     {
         let phase = self.phase;
         let tick = self.tick;
-        match phase {
-            Phase::Start => Decision {
-                verdict: Verdict::Cut,
-                tick,
-            },
-            Phase::FirstHold => Decision {
-                verdict: Verdict::Cut,
-                tick,
-            },
-            Phase::Hold { byte, mark } => Decision {
-                verdict: Verdict::Cut,
-                tick,
-            },
-            Phase::ReadyToSend { any, ended } => Decision {
-                verdict: Verdict::Cut,
-                tick,
-            },
-            Phase::ReadyForData { any, since } => Decision {
-                verdict: Verdict::Cut,
-                tick,
-            },
-            Phase::Acknowledgement { any, ready, since } => Decision {
-                verdict: Verdict::Cut,
-                tick,
-            },
-            Phase::Acknowledged { any, ready, since } => Decision {
-                verdict: Verdict::Cut,
-                tick,
-            },
-            Phase::SetUp {
-                mark,
-                left,
-                value,
-                since,
-                last,
-            } => Decision {
-                verdict: Verdict::Cut,
-                tick,
-            },
-            Phase::Valid {
-                mark,
-                left,
-                value,
-                since,
-                bit,
-            } => Decision {
-                verdict: Verdict::Cut,
-                tick,
-            },
-            Phase::Open {
-                mark,
-                value,
-                since,
-                let_go,
-            } => Decision {
-                verdict: Verdict::Cut,
-                tick,
-            },
-            Phase::Carried { mark, value, since } => Decision {
-                verdict: Verdict::Cut,
-                tick,
-            },
-            Phase::End { finish } => Decision {
-                verdict: Verdict::Complete,
-                tick: finish,
-            },
-            Phase::Decided { fault } => Decision {
-                verdict: Verdict::Broken(fault),
-                tick,
-            },
+        if let Phase::End { finish } = phase {
+            return Decision::complete(finish);
         }
+        if let Phase::Decided { fault } = phase {
+            return Decision::broken(fault, tick);
+        }
+        Decision::cut(tick)
     }
 }

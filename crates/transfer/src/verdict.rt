@@ -1,6 +1,6 @@
 // What a reading can come to, and document 01's number for each.
 ghost use mathlib.Core.Path.{_≡_};
-ghost use Rattle.transfer.specs.Verdicts.{faultNumber, verdictNumber};
+ghost use Rattle.transfer.specs.Verdicts.{faultNumber, verdictNumber, completeAt, cutAt, brokenAt};
 
 // Why a tick ends the reading.
 pub enum Fault {
@@ -33,6 +33,38 @@ pub enum Verdict {
 pub struct Decision {
     pub verdict: Verdict,
     pub tick: u32,
+}
+
+impl Decision {
+    // Complete, at the finish tick.
+    pub(crate) fn complete(finish: u32) -> Decision
+        ensures { λ r. ⌜ r ≡ completeAt finish ⌝ }
+    {
+        Decision {
+            verdict: Verdict::Complete,
+            tick: finish,
+        }
+    }
+
+    // Cut, at the total of ticks.
+    pub(crate) fn cut(total: u32) -> Decision
+        ensures { λ r. ⌜ r ≡ cutAt total ⌝ }
+    {
+        Decision {
+            verdict: Verdict::Cut,
+            tick: total,
+        }
+    }
+
+    // Broken, at the tick that decided.
+    pub(crate) fn broken(fault: Fault, tick: u32) -> Decision
+        ensures { λ r. ⌜ r ≡ brokenAt fault tick ⌝ }
+    {
+        Decision {
+            verdict: Verdict::Broken(fault),
+            tick,
+        }
+    }
 }
 
 impl Fault {

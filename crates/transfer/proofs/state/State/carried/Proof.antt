@@ -45,11 +45,13 @@ returns-4 c = search tests
 
 add-t16 : tie.Need-add-t16
 unfolding upTo
-add-t16 c = let a = c .before .before .before .before .args in omega (arith, leb-false (a .self .tick) (a .since + a .limits .«between_bytes») (sym (c .before .up-to2 .ensures) ∙ c .if5 .left))
+add-t16 c = let a = c .before .before .before .before .args
+    in omega (arith, leb-false (a .self .tick) (a .since + a .limits .«between_bytes») (sym (c .before .up-to2 .ensures) ∙ c .if5 .left))
 
 add-t17 : tie.Need-add-t17
 unfolding upTo
-add-t17 c = let a = c .before .before .before .before .args in omega (arith, leb-false (a .self .tick) (a .since + a .limits .«between_bytes») (sym (c .before .up-to2 .ensures) ∙ c .if5 .left))
+add-t17 c = let a = c .before .before .before .before .args
+    in omega (arith, leb-false (a .self .tick) (a .since + a .limits .«between_bytes») (sym (c .before .up-to2 .ensures) ∙ c .if5 .left))
 
 hand-requires : tie.Need-hand-requires
 hand-requires c κs = search needs

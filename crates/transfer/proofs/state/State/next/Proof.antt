@@ -16,14 +16,22 @@ stop-requires c κs = search needs
 
 returns-2 : tie.Need-returns-2
 unfolding nextState
-returns-2 c = rw (sym (c .before .before .before .is-decided .ensures) ∙ c .before .before .if1 .left, c .before .if2 .taken) (c .stop .ensures)
+returns-2 c = rw (
+  sym (c .before .before .before .is-decided .ensures)
+      ∙ c .before .before .if1 .left,
+  c .before .if2 .taken,
+) (c .stop .ensures)
 
 rows-requires : tie.Need-rows-requires
 rows-requires c κs = search needs
 
 returns-3 : tie.Need-returns-3
 unfolding nextState
-returns-3 c = rw (sym (c .before .before .before .is-decided .ensures) ∙ c .before .before .if1 .left, c .before .if2 .left) (c .rows .ensures)
+returns-3 c = rw (
+  sym (c .before .before .before .is-decided .ensures)
+      ∙ c .before .before .if1 .left,
+  c .before .if2 .left,
+) (c .rows .ensures)
 
 pub next-spec : {M : Type 1} → statement M
 next-spec =

@@ -121,7 +121,8 @@ returns-12 c = cc
 
 returns-13 : tie.Need-returns-13
 unfolding next
-returns-13 c = let a = c .before .before .before .before .args in c .stop .ensures ∙ told (a .limits) (a .self) (a .lines) (c .before .before .phase11 .given .1)
+returns-13 c = let a = c .before .before .before .before .args in c .stop .ensures
+    ∙ told (a .limits) (a .self) (a .lines) (c .before .before .phase11 .given .1)
 
 pub rows-spec : {M : Type 1} → statement M
 rows-spec =
