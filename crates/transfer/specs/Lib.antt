@@ -11,3 +11,4 @@ pub mod Rules
 pub mod Pair
 pub mod Demand3
 pub mod Room
+pub mod Readings

@@ -1,0 +1,82 @@
+-- Where two rows of document 01 meet: tick lists whose outcomes show how it is read there. docs/DECISIONS.md gives the reasons.
+use Prim.Native.Nat.{ℕ, _+_}
+use mathlib.Core.List.{List, [], _∷_, _++_}
+use mathlib.Core.Bool.{Bool, true, _&&_}
+use lib.Dec.{eqb}
+use lib.ListN.{length}
+use Rattle.transfer.specs.Lines.{linesOf}
+use Rattle.transfer.specs.Limits.{standardLimits}
+use Rattle.transfer.specs.Outcome.{Outcome, outcome}
+use Rattle.transfer.specs.Room.{Step, ticks}
+use Rattle.transfer.specs.Verdicts.{verdictNumber}
+
+-- `d ∶ b` is a step of duration d that shows the line byte b: 1 is ATN, 2 CLK, 4 DATA.
+infix 90 _∶_
+abbrev pub _∶_ : ℕ → ℕ → Step
+d ∶ b = record { duration = d; lines = linesOf b }
+
+-- Up to the bits of a first and last byte: the ticks of silence, those of the acknowledgement, and 40 more.
+abbrev pub opening : (silence acknowledgement : ℕ) → List Step
+opening silence acknowledgement = 200 ∶ 6 ∷ 50 ∶ 4 ∷ silence ∶ 0 ∷ acknowledgement ∶ 4 ∷ 40 ∶ 0 ∷ []
+
+-- Bits that show these DATA, 0 or 4, with a set-up of 70 and a valid time of 60 ticks each.
+abbrev pub bits : List ℕ → List Step
+bits [] = []
+bits (d ∷ ds) = 70 ∶ (2 + d) ∷ 60 ∶ d ∷ bits ds
+
+-- The byte 0x41 and the byte 0x80, from tick 0 to the CLK pull after bit 8, which is tick 1,630.
+abbrev pub till41 : List Step
+till41 = opening 220 80 ++ bits (4 ∷ 0 ∷ 0 ∷ 0 ∷ 0 ∷ 0 ∷ 4 ∷ 0 ∷ [])
+
+abbrev pub till80 : List Step
+till80 = opening 220 80 ++ bits (0 ∷ 0 ∷ 0 ∷ 0 ∷ 0 ∷ 0 ∷ 0 ∷ 4 ∷ [])
+
+-- A tick list, and the number, tick and count that it comes to.
+pub record Reading : Type 0 where
+  pub steps : List Step
+  pub number : ℕ
+  pub tick : ℕ
+  pub count : ℕ
+
+abbrev pub reads : List Step → (number tick count : ℕ) → Reading
+reads steps number tick count = record { steps = steps; number = number; tick = tick; count = count }
+
+abbrev pub readings : List Reading
+readings =
+    -- S1 of document 01, and the same without its last step.
+    reads (till41 ++ (30 ∶ 2 ∷ 200 ∶ 6 ∷ 50 ∶ 4 ∷ 100 ∶ 0 ∷ [])) 20 1910 1
+    ∷ reads (till41 ++ (30 ∶ 2 ∷ 200 ∶ 6 ∷ 50 ∶ 4 ∷ [])) 22 1910 1
+    -- A 201st valid tick in which DATA moved: 33, whose row is the earlier one.
+    ∷ reads (opening 220 80 ++ (70 ∶ 6 ∷ 200 ∶ 4 ∷ 1 ∶ 0 ∷ [])) 33 860 0
+    -- A CLK pull after 19 valid ticks, with DATA moved in the same tick: 32.
+    ∷ reads (opening 220 80 ++ (70 ∶ 6 ∷ 19 ∶ 4 ∷ 1 ∶ 2 ∷ [])) 32 679 0
+    -- Carried: DATA released with CLK is 26 and not 36.
+    ∷ reads (till80 ++ (50 ∶ 6 ∷ 1 ∶ 0 ∷ [])) 26 1680 0
+    -- Carried has no upper end: 35 never falls there.
+    ∷ reads (till80 ++ (1500 ∶ 6 ∷ 50 ∶ 4 ∷ 100 ∶ 0 ∷ [])) 20 3180 1
+    -- Carried, then open: 35 still counts from offset 0.
+    ∷ reads (till80 ++ (100 ∶ 6 ∷ 901 ∶ 2 ∷ [])) 35 2630 0
+    -- Open at offset 1,000: CLK released is 26 and not 35.
+    ∷ reads (till41 ++ (1000 ∶ 2 ∷ 1 ∶ 4 ∷ [])) 26 2630 0
+    -- B, too soon: both released is 26; 36 is for (0,1) alone.
+    ∷ reads (till41 ++ (30 ∶ 2 ∷ 50 ∶ 6 ∷ 1 ∶ 0 ∷ [])) 26 1710 0
+    -- C: the byte is handed over on entering it, and a fault in it counts the byte.
+    ∷ reads (till41 ++ (30 ∶ 2 ∷ 200 ∶ 6 ∷ 50 ∶ 4 ∷ 1 ∶ 2 ∷ [])) 26 1910 1
+    -- At the last offset of a phase the rows of CLK and DATA come first: A at 256, D at 290, F at 150, G at 512 after D.
+    ∷ reads (256 ∶ 2 ∷ 1 ∶ 0 ∷ []) 26 256 0
+    ∷ reads (opening 290 150) 22 730 0
+    ∷ reads (200 ∶ 6 ∷ 50 ∶ 4 ∷ 220 ∶ 0 ∷ 80 ∶ 4 ∷ 212 ∶ 0 ∷ 1 ∶ 2 ∷ []) 30 762 0
+    -- A verdict stands: ATN pulled later changes nothing.
+    ∷ reads (1 ∶ 0 ∷ 1 ∶ 1 ∷ []) 25 0 0
+    -- No ticks at all.
+    ∷ reads [] 22 0 0
+    ∷ []
+
+abbrev pub holds : Reading → Bool
+holds r =
+    let o = outcome standardLimits (ticks (r .steps)) in
+    eqb (verdictNumber (o .verdict)) (r .number) && (eqb (o .tick) (r .tick) && eqb (length (o .bytes)) (r .count))
+
+abbrev pub allHold : List Reading → Bool
+allHold [] = true
+allHold (r ∷ rs) = holds r && allHold rs
