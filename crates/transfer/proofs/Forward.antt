@@ -11,9 +11,8 @@ use Rattle.transfer.specs.Offsets.{below, upTo}
 use Rattle.transfer.specs.Phases.{Move, Go, Hand, Stop, next, same, withBit, handover, afterBit}
 use Rattle.transfer.specs.Outcome.{Outcome}
 use Rattle.transfer.specs.Parties.{Pulls, pulls, nobody, held, clock, clockHeld, sets, offers, Bit, bit, lastOf, Frame}
-use Rattle.transfer.specs.Parties.{Sending, more, last, Plan, bitsTrack, handoverTrack, frameTrack, sendingTrack, track}
-use Rattle.transfer.specs.Parties.{bitsTicks, valueOf, byteOf, afterFrame, sendingBytes, planBytes, isZero, isPositive}
-use Rattle.transfer.specs.Parties.{less}
+use Rattle.transfer.specs.Parties.{Sending, more, last, Plan, bitsTrack, frameTrack, sendingTrack, track}
+use Rattle.transfer.specs.Parties.{bitsTicks, valueOf, byteOf, afterFrame, sendingBytes, planBytes}
 use Rattle.transfer.specs.Rules.{lastBit, BitRules, AllBits, FrameRules, SendingRules, PlanRules}
 use Rattle.transfer.specs.Pair.{SameOrLater}
 use Rattle.transfer.specs.Demand3.{Consistent}
@@ -26,6 +25,7 @@ use Rattle.transfer.specs.declared.phase.Phase.the-variants.{Acknowledge
 use Rattle.transfer.specs.declared.phase.Phase.the-variants.{End}
 use Rattle.transfer.specs.declared.verdict.Verdict.the-variants.{Complete}
 use Rattle.transfer.proofs.Run.{run, lines, onward, give, ended}
+use Rattle.transfer.proofs.HandoverTicks.{isPositive, less, handoverTicks, frameTicks, frame-ticks}
 use Rattle.transfer.proofs.ByteValue.{takenIn, eight-bits}
 
 -- What the bus shows of one tick of both tracks.
@@ -148,7 +148,7 @@ module _ (L : Limits) where
       ∙ ap (give b) (stays (ReadyToSend true m) false false true k (suc now) js (λ i x y. refl) ∙ at-tick _ _ (omega arith))
 
   along-hold : (b : Byte) (m : Bool) (n k now : ℕ) (js : List Pulls) → b .take + L .«between_bytes» ≤ now + n → 1 ≤ k
-      → run L now (Hold b m) (map shows (handoverTrack n 0 0 ++ (replicate k held ++ js)))
+      → run L now (Hold b m) (map shows (handoverTicks n 0 0 ++ (replicate k held ++ js)))
       ≡ give b (run L (now + n + k) (ReadyToSend true m) (map shows js))
   unfolding next
   along-hold b m zero k now js h one =
@@ -161,7 +161,7 @@ module _ (L : Limits) where
   -- Open, with the take t ticks ahead and the release of CLK n ticks ahead.
   along-open : (m : Bool) (v s l t n k now : ℕ) (js : List Pulls) → now + t ≤ s + L .«take_latest» → t < n
       → t + L .«between_bytes» ≤ n → 1 ≤ k
-      → run L now (Open m v s l) (map shows (handoverTrack n 0 t ++ (replicate k held ++ js)))
+      → run L now (Open m v s l) (map shows (handoverTicks n 0 t ++ (replicate k held ++ js)))
       ≡ give (record { value = v; «let_go» = l; take = now + t }) (run L (now + n + k) (ReadyToSend true m) (map shows js))
   unfolding next
   along-open m v s l t zero k now js h a b one = absurd (omega arith)
@@ -178,7 +178,7 @@ module _ (L : Limits) where
 
   -- Carried: both pull, or the receiver alone.
   carried-on : (m : Bool) (v s n l now : ℕ) (js : List Pulls)
-      → run L now (Carried m v s) (map shows (handoverTrack n l 0 ++ js)) ≡ run L (now + n) (Carried m v s) (map shows js)
+      → run L now (Carried m v s) (map shows (handoverTicks n l 0 ++ js)) ≡ run L (now + n) (Carried m v s) (map shows js)
   unfolding next
   carried-on m v s zero l now js = at-tick _ _ (omega arith)
   carried-on m v s (suc n) l now js =
@@ -188,7 +188,7 @@ module _ (L : Limits) where
   along-carried : (m : Bool) (v s t n l k now : ℕ) (js : List Pulls) → s < now → now + l ≤ s + L .«keep_most»
       → now + t ≤ s + L .«take_latest»
       → t < n → t + L .«between_bytes» ≤ n → 1 ≤ k
-      → Hands (run L now (Carried m v s) (map shows (handoverTrack n l t ++ (replicate k held ++ js))))
+      → Hands (run L now (Carried m v s) (map shows (handoverTicks n l t ++ (replicate k held ++ js))))
       (run L (now + n + k) (ReadyToSend true m) (map shows js)) (record { value = v; «let_go» = now + l; take = now + t })
   unfolding next
   along-carried m v s zero n l k now js h a b c d one =
@@ -228,7 +228,7 @@ module _ (L : Limits) where
   along-handover : (m bit8 : Bool) (v e l t n k : ℕ) (js : List Pulls) → (bit8 ≡ false → l ≡ 0) → l ≤ L .«keep_most»
       → suc t ≤ L .«take_latest»
       → t < n → t + L .«between_bytes» ≤ n → 1 ≤ k
-      → Hands (onward (handover m v e bit8 (isPositive l)) e (λ (q : Phase). run L (suc e) q (map shows (handoverTrack n
+      → Hands (onward (handover m v e bit8 (isPositive l)) e (λ (q : Phase). run L (suc e) q (map shows (handoverTicks n
       (less l) t ++ (replicate k held ++ js)))))
       (run L (e + suc n + k) (ReadyToSend true m) (map shows js)) (record { value = v; «let_go» = e + l; take = e + suc t })
   unfolding handover
@@ -311,7 +311,7 @@ module _ (L : Limits) where
     along-fields : (m : Bool) (p : Phase) (e : ℕ) (bits : List Bit) (l t n k : ℕ) (js : List Pulls) → Begins m e p
         → let f : Frame = record { bits = bits; let-go = l; take = t; release = n; wait = k } in
         FrameRules L f
-        → Hands (run L e p (map shows (frameTrack f js))) (run L (afterFrame e f) (ReadyToSend true m) (map shows js)) (byteOf e f)
+        → Hands (run L e p (map shows (frameTicks f js))) (run L (afterFrame e f) (ReadyToSend true m) (map shows js)) (byteOf e f)
     along-fields m p e [] l t n k js b rules = absurd (omega (arith, rules .eight))
     along-fields m p e (x ∷ xs) l zero n k js b rules = absurd (omega (arith, rules .take-least))
     along-fields m p e (x ∷ xs) l (suc t) zero k js b rules = absurd (omega (arith, rules .release))
@@ -327,7 +327,7 @@ module _ (L : Limits) where
           is =
               step e p (SetUp m 7 0 e (x .first)) true (x .first) _ (b (x .first))
               ∙ seven-left m e (x .first) _ seven
-              ∙ along-bits m 0 e x xs (isPositive l) (handoverTrack n (less l) t ++ (replicate k held ++ js)) (rules .bits .0)
+              ∙ along-bits m 0 e x xs (isPositive l) (handoverTicks n (less l) t ++ (replicate k held ++ js)) (rules .bits .0)
               (rules .bits .1)
               ∙ r .is;
           value = r .value ∙ eight-bits (x ∷ xs) (rules .eight);
@@ -337,7 +337,9 @@ module _ (L : Limits) where
 
     along-frame : (m : Bool) (p : Phase) (e : ℕ) (f : Frame) (js : List Pulls) → Begins m e p → FrameRules L f
         → Hands (run L e p (map shows (frameTrack f js))) (run L (afterFrame e f) (ReadyToSend true m) (map shows js)) (byteOf e f)
-    along-frame m p e f js b rules = along-fields m p e (f .bits) (f .let-go) (f .take) (f .release) (f .wait) js b rules
+    along-frame m p e f js b rules =
+        then-hands (ap (λ (js : List Pulls). run L e p (map shows js)) (frame-ticks f js))
+        (along-fields m p e (f .bits) (f .let-go) (f .take) (f .release) (f .wait) js b rules)
 
     along-end : (silence now : ℕ) → 1 ≤ silence
         → run L now (ReadyToSend true true) (map shows (replicate silence nobody)) ≡ ended (End now) now

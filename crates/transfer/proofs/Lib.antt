@@ -2,6 +2,7 @@ pub mod Tests
 pub mod Rows
 pub mod Run
 pub mod Room
+pub mod HandoverTicks
 pub mod ByteValue
 pub mod Forward
 pub mod Shapes

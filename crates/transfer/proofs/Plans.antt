@@ -8,12 +8,13 @@ use mathlib.Core.List.{List, [], _∷_, _++_, map}
 use lib.ListN.{length, replicate}
 use Rattle.transfer.specs.Phases.{withBit}
 use Rattle.transfer.specs.Parties.{Pulls, pulls, nobody, held, clock, clockHeld, clockKept, sets, offers, Bit, lastOf}
-use Rattle.transfer.specs.Parties.{Frame, Sending, more, last, bitsTrack, handoverTrack, frameTrack, bitsTicks, valueOf}
+use Rattle.transfer.specs.Parties.{Frame, Sending, more, last, bitsTrack, frameTrack, bitsTicks, valueOf}
 use Rattle.transfer.specs.Parties.{byteOf, afterFrame, sendingBytes}
 use Rattle.transfer.specs.Rules.{lastBit, BitRules, AllBits, FrameRules, MoreRules, LastRules}
 use Rattle.transfer.specs.Demand3.{Consistent}
 use Rattle.transfer.specs.declared.limits.Limits.{Limits}
 use Rattle.transfer.specs.declared.phase.Byte.{Byte}
+use Rattle.transfer.proofs.HandoverTicks.{handoverTicks, frame-ticks}
 use Rattle.transfer.proofs.ByteValue.{takenIn, eight-bits}
 use Rattle.transfer.proofs.Shapes.{Rest, Stays, First, Many, many, joined, Tidy, Sends, Silent, AfterC, HandsOver, Holds}
 use Rattle.transfer.proofs.Shapes.{Opened, Carries, Handover, opens, carries, ValidTicks, SetUpTicks, Bits, Responds}
@@ -21,7 +22,7 @@ use Rattle.transfer.proofs.Shapes.{Acknowledges, AfterD}
 
 -- l ticks with the sender on DATA, t with nobody on it, k with the receiver.
 pub handover-is : (l t k u n : ℕ) (js : List Pulls) → l + t ≡ u → u + k ≡ n
-    → replicate l clockKept ++ (replicate t clock ++ (replicate k clockHeld ++ js)) ≡ handoverTrack n l u ++ js
+    → replicate l clockKept ++ (replicate t clock ++ (replicate k clockHeld ++ js)) ≡ handoverTicks n l u ++ js
 handover-is (suc l) t k zero n js a b = absurd (omega arith)
 handover-is (suc l) t k (suc u) zero js a b = absurd (omega arith)
 handover-is (suc l) t k (suc u) (suc n) js a b = ap (λ x. clockKept ∷ x) (handover-is l t k u n js (omega arith) (omega arith))
@@ -51,7 +52,7 @@ module _ (L : Limits) where
     take-most : take ≤ L .«take_latest»
     releases : take + L .«between_bytes» ≤ release
     waits : 1 ≤ wait
-    is : js ≡ handoverTrack release let-go take ++ (replicate wait held ++ rest)
+    is : js ≡ handoverTicks release let-go take ++ (replicate wait held ++ rest)
     bytes : l ≡ record { value = value; «let_go» = e + let-go; take = e + take } ∷ others
     after : AfterC L mark (e + release + wait) rest others
 
@@ -190,8 +191,9 @@ module _ (L : Limits) where
     frame-of : (mark : Bool) (e : ℕ) (js : List Pulls) (l : List Byte) → BitsPlan mark false 8 0 e js l → FramePlan mark e js l
     frame-of mark e js l x =
         let h = x .after in
+        let f : Frame = record { bits = x .bits; let-go = h .let-go; take = h .take; release = h .release; wait = h .wait } in
         record {
-          frame = record { bits = x .bits; let-go = h .let-go; take = h .take; release = h .release; wait = h .wait };
+          frame = f;
           rules =
               record {
                 eight = x .number;
@@ -206,7 +208,7 @@ module _ (L : Limits) where
           tidy = h .tidy;
           rest = h .rest;
           others = h .others;
-          is = x .is ∙ ap (bitsTrack (x .bits)) (h .is);
+          is = x .is ∙ ap (bitsTrack (x .bits)) (h .is) ∙ sym (frame-ticks f (h .rest));
           bytes =
               h .bytes
               ∙ ap₂ (λ (v t : ℕ). record { value = v; «let_go» = t + h .let-go; take = t + h .take } ∷ h .others)

@@ -117,8 +117,12 @@ module _ (L : Limits) where
 
   pub room : (steps : List Step) → RoomLaw L steps
   unfolding outcome
-  room steps = record {
-    handed-over = subst (λ (o : Outcome). 19 * length (o .bytes) ≤ length steps) (sym (outcome-is L (ticks steps))) (omega
-        (arith, fits steps 0 Start));
-    counted = omega (arith, counts (ticks steps) firstState);
-  }
+  room steps =
+      let places : 19 * length (outcome L (ticks steps) .bytes) ≤ length steps =
+      subst (λ (o : Outcome). 19 * length (o .bytes) ≤ length steps) (sym (outcome-is L (ticks steps)))
+      (omega (arith, fits steps 0 Start)) in
+      record {
+        handed-over = places;
+        few = λ h. omega arith;
+        counted = omega (arith, counts (ticks steps) firstState);
+      }

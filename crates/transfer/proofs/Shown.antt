@@ -1,14 +1,14 @@
 -- The shown pair of a tidy plan's recording and of the plan's own ticks is the plan's tracks. Assumes nothing.
 use Prim.Native.Nat.{ℕ, zero, suc, _+_, _≤_, _<_}
 use native.Mathlib.Omega.{arith}
-use mathlib.Core.Path.{_≡_, refl, ap, _∙_}
+use mathlib.Core.Path.{_≡_, refl, sym, ap, _∙_}
 use mathlib.Core.Bool.{Bool, true, false}
 use mathlib.Core.List.{List, [], _∷_, _++_, map}
 use lib.ListN.{length, replicate}
 use lib.Dec.{ltb}
 use borrow.Author.Tests.{lt-ltb, le-ltb}
 use Rattle.transfer.specs.Parties.{Pulls, pulls, nobody, held, clock, clockHeld, clockKept, sets, offers, Bit, bit, Frame}
-use Rattle.transfer.specs.Parties.{Sending, more, last, Plan, bitsTrack, handoverTrack, frameTrack, sendingTrack, track}
+use Rattle.transfer.specs.Parties.{Sending, more, last, Plan, bitsTrack, frameTrack, sendingTrack, track}
 use Rattle.transfer.specs.Parties.{bitsTicks, byteOf, afterFrame, sendingBytes, planBytes}
 use Rattle.transfer.specs.Rules.{FrameRules, SendingRules, PlanRules}
 use Rattle.transfer.specs.Pair.{Turn, holding, waiting, sending, turnAt, pullsIn, shownFrom, shown}
@@ -18,6 +18,7 @@ use Rattle.transfer.specs.declared.lines.Lines.{Lines}
 use Rattle.transfer.specs.declared.phase.Byte.{Byte}
 use Rattle.transfer.proofs.Run.{lines}
 use Rattle.transfer.proofs.Forward.{shows}
+use Rattle.transfer.proofs.HandoverTicks.{handoverTicks, frameTicks, frame-ticks}
 use Rattle.transfer.proofs.Shapes.{Tidy}
 
 at-tick : (t : Turn) (w : List Lines) {a b : ℕ} → a ≡ b → shownFrom a t w ≡ shownFrom b t w
@@ -111,20 +112,20 @@ module _ (b : Byte) (l : List Byte) where
 
   -- The handover: once the sender has let go, CLK stays pulled.
   holds-handover : (t n now : ℕ) (js : List Pulls)
-      → shownFrom now (holding l) (map shows (handoverTrack n 0 t ++ js))
-      ≡ handoverTrack n 0 t ++ shownFrom (now + n) (holding l) (map shows js)
+      → shownFrom now (holding l) (map shows (handoverTicks n 0 t ++ js))
+      ≡ handoverTicks n 0 t ++ shownFrom (now + n) (holding l) (map shows js)
   unfolding shownFrom
   holds-handover t zero now js = at-tick (holding l) (map shows js) (omega arith)
   holds-handover zero (suc n) now js =
       ap (λ x. clockHeld ∷ x) (holds-handover zero n (suc now) js
-      ∙ ap (λ x. handoverTrack n 0 0 ++ x) (at-tick (holding l) (map shows js) (omega arith)))
+      ∙ ap (λ x. handoverTicks n 0 0 ++ x) (at-tick (holding l) (map shows js) (omega arith)))
   holds-handover (suc t) (suc n) now js =
       ap (λ x. clock ∷ x) (holds-handover t n (suc now) js
-      ∙ ap (λ x. handoverTrack n 0 t ++ x) (at-tick (holding l) (map shows js) (omega arith)))
+      ∙ ap (λ x. handoverTicks n 0 t ++ x) (at-tick (holding l) (map shows js) (omega arith)))
 
   sends-handover : (k t n now : ℕ) (js : List Pulls) → b .«let_go» ≡ now + k → k ≤ t → t < n
-      → shownFrom now (sending b l) (map shows (handoverTrack n k t ++ js))
-      ≡ handoverTrack n k t ++ shownFrom (now + n) (holding l) (map shows js)
+      → shownFrom now (sending b l) (map shows (handoverTicks n k t ++ js))
+      ≡ handoverTicks n k t ++ shownFrom (now + n) (holding l) (map shows js)
   sends-handover k t zero now js e h a = absurd (omega arith)
   sends-handover zero zero (suc n) now js e h a = lets-go now true _ (omega arith) ∙ holds-handover 0 (suc n) now js
   sends-handover zero (suc t) (suc n) now js e h a = lets-go now false _ (omega arith) ∙ holds-handover (suc t) (suc n) now js
@@ -133,15 +134,15 @@ module _ (b : Byte) (l : List Byte) where
       sends now true true _ (omega arith)
       ∙ ap (λ x. clockKept ∷ x)
       (sends-handover k t n (suc now) js (omega arith) (omega arith) (omega arith)
-      ∙ ap (λ x. handoverTrack n k t ++ x) (at-tick (holding l) (map shows js) (omega arith)))
+      ∙ ap (λ x. handoverTicks n k t ++ x) (at-tick (holding l) (map shows js) (omega arith)))
 
 module _ (L : Limits) (times : Consistent L) where
   -- A byte whose bits begin at tick `now`.
   shows-fields : (bits : List Bit) (k t n wait now : ℕ) (l : List Byte) (js : List Pulls)
       → let f : Frame = record { bits = bits; let-go = k; take = t; release = n; wait = wait } in
       FrameRules L f → k ≤ t
-      → shownFrom now (waiting (byteOf now f ∷ l)) (map shows (frameTrack f js))
-      ≡ frameTrack f (shownFrom (afterFrame now f) (waiting l) (map shows js))
+      → shownFrom now (waiting (byteOf now f ∷ l)) (map shows (frameTicks f js))
+      ≡ frameTicks f (shownFrom (afterFrame now f) (waiting l) (map shows js))
   shows-fields [] k t n wait now l js rules tidy = absurd (omega (arith, rules .eight))
   shows-fields (x ∷ xs) k t n wait now l js rules tidy =
       let b = byteOf now (record { bits = x ∷ xs; let-go = k; take = t; release = n; wait = wait }) in
@@ -152,14 +153,17 @@ module _ (L : Limits) (times : Consistent L) where
       (sends-bits b l xs (suc now + length (x .others) + x .valid) _ (omega arith)
       ∙ ap (bitsTrack xs)
       (sends-handover b l k t n _ _ (omega arith) tidy (omega (arith, rules .release, times .keep, times .keep-release))
-      ∙ ap (λ y. handoverTrack n k t ++ y)
+      ∙ ap (λ y. handoverTicks n k t ++ y)
       (holds-waits wait _ l js (rules .wait)
       ∙ ap (λ y. replicate wait held ++ y) (at-tick (waiting l) (map shows js) (omega arith))))))
 
   shows-frame : (f : Frame) (now : ℕ) (l : List Byte) (js : List Pulls) → FrameRules L f → f .let-go ≤ f .take
       → shownFrom now (waiting (byteOf now f ∷ l)) (map shows (frameTrack f js))
       ≡ frameTrack f (shownFrom (afterFrame now f) (waiting l) (map shows js))
-  shows-frame f now l js rules tidy = shows-fields (f .bits) (f .let-go) (f .take) (f .release) (f .wait) now l js rules tidy
+  shows-frame f now l js rules tidy =
+      ap (λ (js : List Pulls). shownFrom now (waiting (byteOf now f ∷ l)) (map shows js)) (frame-ticks f js)
+      ∙ shows-fields (f .bits) (f .let-go) (f .take) (f .release) (f .wait) now l js rules tidy
+      ∙ sym (frame-ticks f _)
 
   shows-end : (n now : ℕ) → shownFrom now (waiting []) (map shows (replicate n nobody)) ≡ replicate n nobody
   unfolding shownFrom

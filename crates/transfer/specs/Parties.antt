@@ -3,6 +3,7 @@
 use Prim.Native.Nat.{ℕ, zero, suc, _+_}
 use mathlib.Core.Bool.{Bool, true, false}
 use mathlib.Core.List.{List, [], _∷_, _++_, map}
+use lib.Dec.{ltb, leb}
 use lib.ListN.{length, replicate}
 use Rattle.transfer.specs.Choice.{if_then_else_}
 use Rattle.transfer.specs.declared.phase.Byte.{Byte}
@@ -80,28 +81,19 @@ abbrev pub bitsTrack : List Bit → List Pulls → List Pulls
 bitsTrack [] rest = rest
 bitsTrack (x ∷ xs) rest = bitTrack x (bitsTrack xs rest)
 
--- "After bit 8 the sender pulls CLK": n ticks, in which the sender pulls DATA before offset `let-go` and the receiver from
--- offset `take` on.
-abbrev pub isZero : ℕ → Bool
-isZero zero = true
-isZero (suc n) = false
+-- "After bit 8 the sender pulls CLK." At an offset from that pull on, the sender pulls DATA before its letting go, and the
+-- receiver from its take on.
+abbrev pub handoverTick : (let-go take offset : ℕ) → Pulls
+handoverTick let-go take offset = pulls true (ltb offset let-go) (leb take offset)
 
-abbrev pub isPositive : ℕ → Bool
-isPositive zero = false
-isPositive (suc n) = true
-
-abbrev pub less : ℕ → ℕ
-less zero = zero
-less (suc n) = n
-
-abbrev pub handoverTrack : (n let-go take : ℕ) → List Pulls
-handoverTrack zero let-go take = []
-handoverTrack (suc n) let-go take =
-    pulls true (isPositive let-go) (isZero take) ∷ handoverTrack n (less let-go) (less take)
+-- The n ticks from an offset on.
+abbrev pub handoverTrack : (let-go take offset n : ℕ) → List Pulls
+handoverTrack let-go take offset zero = []
+handoverTrack let-go take offset (suc n) = handoverTick let-go take offset ∷ handoverTrack let-go take (suc offset) n
 
 abbrev pub frameTrack : Frame → List Pulls → List Pulls
 frameTrack f rest =
-    bitsTrack (f .bits) (handoverTrack (f .release) (f .let-go) (f .take) ++ (replicate (f .wait) held ++ rest))
+    bitsTrack (f .bits) (handoverTrack (f .let-go) (f .take) 0 (f .release) ++ (replicate (f .wait) held ++ rest))
 
 abbrev pub sendingTrack : Sending → List Pulls
 sendingTrack (more gap f rest) = replicate gap nobody ++ frameTrack f (sendingTrack rest)

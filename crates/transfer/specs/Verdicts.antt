@@ -1,4 +1,4 @@
--- Document 01's numbers for the verdicts, in its order.
+-- Document 01's numbers for the verdicts, in its order: "20 complete, 21 empty stream, 22 cut, 23 attention, .."
 use Prim.Native.Nat.{ℕ}
 use Rattle.transfer.specs.declared.verdict.Decision.{Decision}
 use Rattle.transfer.specs.declared.verdict.Fault.{Fault}
@@ -10,28 +10,25 @@ use Rattle.transfer.specs.declared.verdict.Fault.the-variants.{Hurried, 
 use Rattle.transfer.specs.declared.verdict.Verdict.{Verdict}
 use Rattle.transfer.specs.declared.verdict.Verdict.the-variants.{Complete, Cut, Broken}
 
-abbrev pub faultNumber : Fault → ℕ
-faultNumber EmptyStream = 21
-faultNumber Attention = 23
-faultNumber NoReceiver = 24
-faultNumber BadStart = 25
-faultNumber OutOfTurn = 26
-faultNumber EndMarkNotAcknowledged = 27
-faultNumber AcknowledgementShort = 28
-faultNumber AcknowledgementLong = 29
-faultNumber LateClock = 30
-faultNumber SenderTimeout = 31
-faultNumber ValidTimeShort = 32
-faultNumber DataMoved = 33
-faultNumber ClockStall = 34
-faultNumber ReceiverTimeout = 35
-faultNumber Hurried = 36
-faultNumber MovedAfterEnd = 37
-
 abbrev pub verdictNumber : Verdict → ℕ
 verdictNumber Complete = 20
+verdictNumber (Broken EmptyStream) = 21
 verdictNumber Cut = 22
-verdictNumber (Broken fault) = faultNumber fault
+verdictNumber (Broken Attention) = 23
+verdictNumber (Broken NoReceiver) = 24
+verdictNumber (Broken BadStart) = 25
+verdictNumber (Broken OutOfTurn) = 26
+verdictNumber (Broken EndMarkNotAcknowledged) = 27
+verdictNumber (Broken AcknowledgementShort) = 28
+verdictNumber (Broken AcknowledgementLong) = 29
+verdictNumber (Broken LateClock) = 30
+verdictNumber (Broken SenderTimeout) = 31
+verdictNumber (Broken ValidTimeShort) = 32
+verdictNumber (Broken DataMoved) = 33
+verdictNumber (Broken ClockStall) = 34
+verdictNumber (Broken ReceiverTimeout) = 35
+verdictNumber (Broken Hurried) = 36
+verdictNumber (Broken MovedAfterEnd) = 37
 
 -- "A verdict carries the deciding tick .. (20: the finish tick; 22: total ticks ..)."
 abbrev pub completeAt : (finish : ℕ) → Decision

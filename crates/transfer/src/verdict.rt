@@ -1,6 +1,6 @@
 // What a reading can come to, and document 01's number for each.
 ghost use mathlib.Core.Path.{_≡_};
-ghost use Rattle.transfer.specs.Verdicts.{faultNumber, verdictNumber, completeAt, cutAt, brokenAt};
+ghost use Rattle.transfer.specs.Verdicts.{verdictNumber, completeAt, cutAt, brokenAt};
 
 // Why a tick ends the reading.
 pub enum Fault {
@@ -69,7 +69,7 @@ impl Decision {
 
 impl Fault {
     pub fn number(self) -> u8
-        ensures { λ r. ⌜ r ≡ faultNumber self ⌝ }
+        ensures { λ r. ⌜ r ≡ verdictNumber (Verdict.Broken self) ⌝ }
     {
         match self {
             Fault::EmptyStream => 21,
