@@ -1,18 +1,18 @@
 -- A complete recording has a pair: the run read back as a plan, row by row. Assumes nothing.
 use Prim.Native.Nat.{ℕ, zero, suc, _+_, _≤_, _<_}
 use native.Mathlib.Omega.{arith}
-use mathlib.Core.Path.{_≡_, refl, sym, ap, _∙_, subst⁻¹}
-use mathlib.Core.Logic.{_⊎_, inl, inr}
+use mathlib.Core.Path.{_≡_, refl, ap, _∙_, subst⁻¹}
+use mathlib.Core.Logic.{inl, inr}
 use mathlib.Core.Bool.{Bool, true, false}
 use mathlib.Core.List.{List, [], _∷_, _++_, map}
-use lib.ListN.{length, replicate}
+use lib.ListN.{replicate}
 use lib.Dec.{ltb, leb, eqb}
 use borrow.Author.Tests.{ltb-true, ltb-false, leb-true, leb-false}
 use Rattle.transfer.specs.Choice.{if_then_else_}
 use Rattle.transfer.specs.Offsets.{below, upTo}
-use Rattle.transfer.specs.Phases.{Move, Go, Hand, Stop, next, same, withBit, handover, afterBit}
+use Rattle.transfer.specs.Phases.{Move, Go, Stop, next, same, withBit, handover, afterBit}
 use Rattle.transfer.specs.Outcome.{Outcome}
-use Rattle.transfer.specs.Parties.{Pulls, pulls, nobody, held, clock, clockHeld, clockKept, sets, offers, Plan, track}
+use Rattle.transfer.specs.Parties.{Pulls, nobody, held, clock, clockHeld, clockKept, sets, offers, Plan, track}
 use Rattle.transfer.specs.Parties.{sendingBytes, planBytes}
 use Rattle.transfer.specs.Rules.{PlanRules}
 use Rattle.transfer.specs.Demand3.{Consistent}
@@ -24,7 +24,7 @@ use Rattle.transfer.specs.declared.phase.Phase.the-variants.{Start, Firs
 use Rattle.transfer.specs.declared.phase.Phase.the-variants.{Acknowledgement, Acknowledged, SetUp, Valid, Open, Carried}
 use Rattle.transfer.specs.declared.phase.Phase.the-variants.{End, Decided}
 use Rattle.transfer.specs.declared.verdict.Fault.{Fault}
-use Rattle.transfer.specs.declared.verdict.Fault.the-variants.{Attention, ClockStall}
+use Rattle.transfer.specs.declared.verdict.Fault.the-variants.{ClockStall}
 use Rattle.transfer.specs.declared.verdict.Verdict.{Verdict}
 use Rattle.transfer.specs.declared.verdict.Verdict.the-variants.{Complete, Cut, Broken}
 use Rattle.transfer.proofs.Run.{run, lines, onward, decided, ended, give}

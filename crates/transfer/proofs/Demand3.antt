@@ -2,13 +2,13 @@
 use Prim.Native.Nat.{ℕ}
 use native.Mathlib.Omega.{arith}
 use mathlib.Core.Path.{_≡_, refl, sym, ap, ap₂, _∙_, subst, subst⁻¹}
-use mathlib.Core.Logic.{_↔_}
 use mathlib.Core.Bool.{Bool, _||_}
 use mathlib.Core.List.{List, [], _∷_, map}
 use Rattle.transfer.specs.Limits.{standardLimits}
 use Rattle.transfer.specs.Outcome.{Outcome, outcome}
-use Rattle.transfer.specs.Parties.{Pulls, pulls, track, planBytes}
-use Rattle.transfer.specs.Pair.{SenderPulls, senderPulls, receiverPulls, gives, values, Pair, SameOrLater, shown}
+use Rattle.transfer.specs.Parties.{Pulls, pulls, track}
+use Rattle.transfer.specs.Pair.{SenderPulls, senderPulls, receiverPulls, gives, values, SameOrLater}
+use Rattle.transfer.specs.Shown.{shown}
 use Rattle.transfer.specs.Demand3.{Consistent, CompleteWith, shownSender, shownReceiver, Explains, Explained, Demand3}
 use Rattle.transfer.specs.declared.limits.Limits.{Limits}
 use Rattle.transfer.specs.declared.lines.Lines.{Lines}

@@ -1,11 +1,11 @@
 -- What the code's `if let` tells of a phase: its place among the variants of `Phase`, E being 11 and `Decided` 12. Assumes nothing.
 use Prim.Native.Nat.{ℕ}
 use mathlib.Core.Path.{_≡_, refl}
-use mathlib.Core.Bool.{Bool, false}
+use mathlib.Core.Bool.{false}
 use mathlib.Core.List.{List, [], _∷_}
 use denote.Enum.Declared.{tagOf}
 use types.Run.{OneOf, miss}
-use Rattle.transfer.specs.Reading.{isDecided, decisionOf}
+use Rattle.transfer.specs.States.{isDecided, decisionOf}
 use Rattle.transfer.specs.Verdicts.{cutAt}
 use Rattle.transfer.specs.declared.phase.Phase.{Phase}
 use Rattle.transfer.specs.declared.phase.Phase.the-variants.{Start, FirstHold, Hold, ReadyToSend, ReadyForData}

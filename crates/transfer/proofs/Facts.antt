@@ -1,9 +1,9 @@
 -- Facts that keep the statements from being empty or wide: a pair sends one byte at least, and bytes; and S1 of document 01 has a pair.
 -- Assumes nothing.
-use Prim.Native.Nat.{ℕ, zero, suc, _+_, _*_, _^_, _≤_, _<_}
+use Prim.Native.Nat.{ℕ, suc, _+_, _*_, _^_, _≤_, _<_}
 use native.Mathlib.Omega.{arith}
 use native.Mathlib.Nat.{pow-suc}
-use mathlib.Core.Path.{_≡_, refl, sym, ap, _∙_, subst}
+use mathlib.Core.Path.{_≡_, refl, sym, subst}
 use mathlib.Core.Bool.{Bool, true, false}
 use mathlib.Core.List.{List, [], _∷_, _++_}
 use lib.ListN.{length}
@@ -11,9 +11,9 @@ use Rattle.transfer.specs.Choice.{if_then_else_}
 use Rattle.transfer.specs.Limits.{standardLimits}
 use Rattle.transfer.specs.Offsets.{below, upTo}
 use Rattle.transfer.specs.Phases.{next, same, withBit, handover, afterBit}
-use Rattle.transfer.specs.Reading.{follow, nextState}
+use Rattle.transfer.specs.States.{follow, nextState}
 use Rattle.transfer.specs.Outcome.{stateAfter, handedOver, outcome}
-use Rattle.transfer.specs.Parties.{Bit, bit, Frame, Sending, more, last, valueOf, sendingBytes, planBytes}
+use Rattle.transfer.specs.Parties.{Bit, bit, Frame, Sending, more, last, valueOf, sendingBytes}
 use Rattle.transfer.specs.Rules.{FrameRules, SendingRules}
 use Rattle.transfer.specs.Pair.{SenderPulls, Pair, values}
 use Rattle.transfer.specs.Demand3.{CompleteWith, Explained}

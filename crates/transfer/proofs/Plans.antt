@@ -2,23 +2,23 @@
 use Prim.Native.Nat.{ℕ, zero, suc, _+_, _≤_, _<_}
 use native.Mathlib.Omega.{arith}
 use mathlib.Core.Path.{_≡_, refl, sym, ap, ap₂, _∙_, subst, subst⁻¹, subst₂}
-use mathlib.Core.Logic.{_⊎_, inl, inr}
+use mathlib.Core.Logic.{inl, inr}
 use mathlib.Core.Bool.{Bool, true, false}
 use mathlib.Core.List.{List, [], _∷_, _++_, map}
 use lib.ListN.{length, replicate}
 use Rattle.transfer.specs.Phases.{withBit}
-use Rattle.transfer.specs.Parties.{Pulls, pulls, nobody, held, clock, clockHeld, clockKept, sets, offers, Bit, lastOf}
-use Rattle.transfer.specs.Parties.{Frame, Sending, more, last, bitsTrack, frameTrack, bitsTicks, valueOf}
+use Rattle.transfer.specs.Parties.{Pulls, nobody, held, clock, clockHeld, clockKept, sets, offers, Bit, lastOf}
+use Rattle.transfer.specs.Parties.{Frame, more, last, bitsTrack, frameTrack, bitsTicks}
 use Rattle.transfer.specs.Parties.{byteOf, afterFrame, sendingBytes}
-use Rattle.transfer.specs.Rules.{lastBit, BitRules, AllBits, FrameRules, MoreRules, LastRules}
+use Rattle.transfer.specs.Rules.{lastBit, AllBits, FrameRules}
 use Rattle.transfer.specs.Demand3.{Consistent}
 use Rattle.transfer.specs.declared.limits.Limits.{Limits}
 use Rattle.transfer.specs.declared.phase.Byte.{Byte}
 use Rattle.transfer.proofs.HandoverTicks.{handoverTicks, frame-ticks}
 use Rattle.transfer.proofs.ByteValue.{takenIn, eight-bits}
-use Rattle.transfer.proofs.Shapes.{Rest, Stays, First, Many, many, joined, Tidy, Sends, Silent, AfterC, HandsOver, Holds}
-use Rattle.transfer.proofs.Shapes.{Opened, Carries, Handover, opens, carries, ValidTicks, SetUpTicks, Bits, Responds}
-use Rattle.transfer.proofs.Shapes.{Acknowledges, AfterD}
+use Rattle.transfer.proofs.Shapes.{Stays, First, Many, many, joined, Sends, AfterC, HandsOver}
+use Rattle.transfer.proofs.Shapes.{Carries, Handover, opens, carries, Bits}
+use Rattle.transfer.proofs.Shapes.{AfterD}
 
 -- l ticks with the sender on DATA, t with nobody on it, k with the receiver.
 pub handover-is : (l t k u n : ℕ) (js : List Pulls) → l + t ≡ u → u + k ≡ n

@@ -1,7 +1,7 @@
 -- The room law: a byte takes nineteen steps at the least. Assumes nothing.
 use Prim.Native.Nat.{ℕ, zero, suc, _+_, _*_, _≤_}
 use native.Mathlib.Omega.{arith}
-use mathlib.Core.Path.{_≡_, refl, sym, ap, _∙_, subst}
+use mathlib.Core.Path.{_≡_, refl, sym, ap, subst}
 use mathlib.Core.Bool.{Bool, true, false}
 use mathlib.Core.List.{List, [], _∷_, _++_}
 use lib.Dec.{eqb}
@@ -9,8 +9,8 @@ use lib.ListN.{length, replicate}
 use borrow.Author.Tests.{eqb-true, eqb-false}
 use Rattle.transfer.specs.Choice.{if_then_else_}
 use Rattle.transfer.specs.Phases.{Move, Go, Hand, Stop, next}
-use Rattle.transfer.specs.Reading.{firstState, follow, nextState, readIn, isDecided}
-use Rattle.transfer.specs.Outcome.{Outcome, stateAfter, handedIn, handedOver, outcome}
+use Rattle.transfer.specs.States.{firstState, follow, nextState, readIn, isDecided}
+use Rattle.transfer.specs.Outcome.{Outcome, stateAfter, handedOver, outcome}
 use Rattle.transfer.specs.Room.{Step, ticks, RoomLaw}
 use Rattle.transfer.specs.declared.limits.Limits.{Limits}
 use Rattle.transfer.specs.declared.lines.Lines.{Lines}

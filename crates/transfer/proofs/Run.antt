@@ -1,17 +1,15 @@
 -- The run of the table over a tick list, as the proofs go along it: what follows a tick is a function of the phase alone. It is the
 -- outcome of specs/Outcome.antt, shown at the end. Assumes nothing.
-use Prim.Native.Nat.{ℕ, zero, suc, _+_}
+use Prim.Native.Nat.{ℕ, suc, _+_}
 use native.Mathlib.Omega.{arith}
 use native.Mathlib.Numerals.{add-one}
-use mathlib.Core.Path.{_≡_, refl, sym, ap, _∙_, subst}
+use mathlib.Core.Path.{_≡_, refl, sym, ap, _∙_}
 use mathlib.Core.Bool.{Bool, true, false}
 use mathlib.Core.List.{List, [], _∷_, _++_}
-use lib.Dec.{eqb}
-use lib.ListN.{length}
 use borrow.Author.Tests.{eq-eqb, ne-eqb}
 use Rattle.transfer.specs.Choice.{if_then_else_}
 use Rattle.transfer.specs.Phases.{Move, Go, Hand, Stop, next}
-use Rattle.transfer.specs.Reading.{firstState, follow, nextState, isDecided, decisionOf}
+use Rattle.transfer.specs.States.{firstState, follow, nextState, isDecided, decisionOf}
 use Rattle.transfer.specs.Outcome.{Outcome, stateAfter, handedIn, handedOver, outcomeFrom, outcome}
 use Rattle.transfer.specs.declared.limits.Limits.{Limits}
 use Rattle.transfer.specs.declared.lines.Lines.{Lines}
@@ -24,7 +22,7 @@ use Rattle.transfer.specs.declared.state.State.{State}
 use Rattle.transfer.specs.declared.verdict.Fault.{Fault}
 use Rattle.transfer.specs.declared.verdict.Fault.the-variants.{Attention}
 use Rattle.transfer.specs.declared.verdict.Verdict.the-variants.{Broken}
-use Rattle.transfer.proofs.Rows.{Climbs, stops, goes, hands, climbs, settled, place, further}
+use Rattle.transfer.proofs.Rows.{Climbs, stops, goes, hands, climbs, settled}
 
 abbrev pub decided : Fault → ℕ → Outcome
 decided fault tick = record { verdict = Broken fault; tick = tick; bytes = [] }

@@ -3,12 +3,12 @@
 use Prim.Native.Nat.{ℕ, zero, suc, _+_, _≤_, _<_}
 use native.Mathlib.Omega.{arith}
 use mathlib.Core.Path.{_≡_, refl, ap, _∙_}
-use mathlib.Core.Logic.{_⊎_, inl, inr}
+use mathlib.Core.Logic.{_⊎_}
 use mathlib.Core.Bool.{Bool, true, false}
 use mathlib.Core.List.{List, [], _∷_, _++_, map}
 use lib.ListN.{length, replicate}
 use Rattle.transfer.specs.Phases.{withBit}
-use Rattle.transfer.specs.Parties.{Pulls, pulls, nobody, held, clock, clockHeld, clockKept, sets, offers, lastOf, Sending}
+use Rattle.transfer.specs.Parties.{Pulls, nobody, held, clock, clockHeld, clockKept, sets, offers, lastOf, Sending}
 use Rattle.transfer.specs.Parties.{more, last, sendingTrack, sendingBytes}
 use Rattle.transfer.specs.Rules.{SendingRules}
 use Rattle.transfer.specs.declared.limits.Limits.{Limits}

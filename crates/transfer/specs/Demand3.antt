@@ -5,8 +5,8 @@ use mathlib.Core.Logic.{_↔_}
 use mathlib.Core.Bool.{Bool}
 use mathlib.Core.List.{List, map}
 use Rattle.transfer.specs.Outcome.{outcome}
-use Rattle.transfer.specs.Parties.{Pulls}
-use Rattle.transfer.specs.Pair.{SenderPulls, senderPulls, receiverPulls, gives, values, Pair, SameOrLater, shown}
+use Rattle.transfer.specs.Pair.{SenderPulls, senderPulls, receiverPulls, gives, values, Pair, SameOrLater}
+use Rattle.transfer.specs.Shown.{shown}
 use Rattle.transfer.specs.declared.limits.Limits.{Limits}
 use Rattle.transfer.specs.declared.lines.Lines.{Lines}
 use Rattle.transfer.specs.declared.phase.Byte.{Byte}

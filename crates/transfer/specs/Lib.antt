@@ -4,11 +4,12 @@ pub mod Limits
 pub mod Offsets
 pub mod Phases
 pub mod Verdicts
-pub mod Reading
+pub mod States
 pub mod Outcome
 pub mod Parties
 pub mod Rules
 pub mod Pair
+pub mod Shown
 pub mod Demand3
 pub mod Room
 pub mod Readings

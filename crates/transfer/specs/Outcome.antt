@@ -3,7 +3,7 @@ use Prim.Native.Nat.{ℕ}
 use mathlib.Core.List.{List, [], _∷_, _++_}
 use lib.Dec.{eqb}
 use Rattle.transfer.specs.Choice.{if_then_else_}
-use Rattle.transfer.specs.Reading.{firstState, nextState, decisionOf}
+use Rattle.transfer.specs.States.{firstState, nextState, decisionOf}
 use Rattle.transfer.specs.declared.limits.Limits.{Limits}
 use Rattle.transfer.specs.declared.lines.Lines.{Lines}
 use Rattle.transfer.specs.declared.phase.Byte.{Byte}

@@ -6,7 +6,7 @@ use lib.Dec.{eqb}
 use lib.ListN.{length}
 use Rattle.transfer.specs.Lines.{linesOf}
 use Rattle.transfer.specs.Limits.{standardLimits}
-use Rattle.transfer.specs.Outcome.{Outcome, outcome}
+use Rattle.transfer.specs.Outcome.{outcome}
 use Rattle.transfer.specs.Room.{Step, ticks}
 use Rattle.transfer.specs.Verdicts.{verdictNumber}
 

@@ -4,7 +4,7 @@ use mathlib.Core.Path.{_≡_}
 use mathlib.Core.List.{List, [], _∷_, _++_}
 use lib.ListN.{length, replicate}
 use Rattle.transfer.specs.Outcome.{outcome, stateAfter}
-use Rattle.transfer.specs.Reading.{firstState}
+use Rattle.transfer.specs.States.{firstState}
 use Rattle.transfer.specs.declared.limits.Limits.{Limits}
 use Rattle.transfer.specs.declared.lines.Lines.{Lines}
 

@@ -1,6 +1,6 @@
 // Phases A start, B hold and C ready to send.
 ghost use mathlib.Core.Path.{_≡_};
-ghost use Rattle.transfer.specs.Reading.{readIn, Countable};
+ghost use Rattle.transfer.specs.States.{readIn, Countable};
 use crate::limits::Limits;
 use crate::lines::Lines;
 use crate::offset::below;

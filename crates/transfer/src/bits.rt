@@ -1,7 +1,7 @@
 // The eight bits of a byte, least significant first: set-up and valid.
 ghost use mathlib.Core.Path.{_≡_};
 ghost use Rattle.transfer.specs.Phases.{same, withBit};
-ghost use Rattle.transfer.specs.Reading.{readIn, Countable};
+ghost use Rattle.transfer.specs.States.{readIn, Countable};
 use crate::limits::Limits;
 use crate::lines::Lines;
 use crate::offset::below;

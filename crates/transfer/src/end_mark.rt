@@ -1,6 +1,6 @@
 // Phases D ready for data, F acknowledgement and G: whether the byte to come has the end mark.
 ghost use mathlib.Core.Path.{_≡_};
-ghost use Rattle.transfer.specs.Reading.{readIn, Countable};
+ghost use Rattle.transfer.specs.States.{readIn, Countable};
 use crate::limits::Limits;
 use crate::lines::Lines;
 use crate::offset::below;

@@ -1,7 +1,7 @@
 // The handover: from the CLK pull after bit 8 to the receiver's take.
 ghost use mathlib.Core.Path.{_≡_};
 ghost use Rattle.transfer.specs.Phases.{handover};
-ghost use Rattle.transfer.specs.Reading.{follow, readIn, Countable};
+ghost use Rattle.transfer.specs.States.{follow, readIn, Countable};
 use crate::limits::Limits;
 use crate::lines::Lines;
 use crate::offset::below;

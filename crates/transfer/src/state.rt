@@ -1,14 +1,13 @@
 // The state of the reading, and one tick of it.
 ghost use mathlib.Core.Path.{_≡_};
 ghost use Rattle.transfer.specs.Phases.{Go, Hand, Stop};
-ghost use Rattle.transfer.specs.Reading.{follow, readIn, nextState, firstState, isDecided, decisionOf, Countable};
+ghost use Rattle.transfer.specs.States.{follow, readIn, nextState, firstState, isDecided, decisionOf, Countable};
 use crate::limits::Limits;
 use crate::lines::Lines;
 use crate::phase::Byte;
 use crate::phase::Phase;
 use crate::verdict::Decision;
 use crate::verdict::Fault;
-use crate::verdict::Verdict;
 
 // `tick` is the next tick to be read, or the deciding one; `count` bytes were handed over, `handed` last.
 pub struct State {

@@ -1,4 +1,4 @@
-use Rattle.transfer.specs.Reading.{follow}
+use Rattle.transfer.specs.States.{follow}
 use borrow.Author.Needs.{needs}
 use Rattle.transfer.proofs.state.State.go.Statement.{statement}
 use Rattle.transfer.proofs.state.State.go.Tie as tie

@@ -1,4 +1,4 @@
-use Rattle.transfer.specs.Reading.{nextState}
+use Rattle.transfer.specs.States.{nextState}
 use mathlib.Core.Path.{sym, _∙_}
 use borrow.Author.Needs.{needs}
 use Rattle.transfer.proofs.state.State.next.Statement.{statement}

@@ -1,5 +1,5 @@
 use borrow.Author.Needs.{needs}
-use Rattle.transfer.specs.Reading.{follow}
+use Rattle.transfer.specs.States.{follow}
 use Rattle.transfer.proofs.state.State.stop.Statement.{statement}
 use Rattle.transfer.proofs.state.State.stop.Tie as tie
 
