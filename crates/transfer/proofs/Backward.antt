@@ -169,7 +169,7 @@ module _ (L : Limits) where
       if-below _ _ _ _ _ _ _
       (λ a.
       goes held (Acknowledgement any ready s) (Acknowledgement any ready s) now w _ (λ js l h. stay h)
-      (ih (suc now) (Acknowledgement any ready s) a))
+      (ih (suc now) (Acknowledgement any ready s) (omega arith)))
   row-acknowledgement any ready s false false now w ih i =
       unless-below _ _ _ _ _ _ _
       (λ a.
@@ -188,7 +188,7 @@ module _ (L : Limits) where
   unfolding next
   row-open m v s l false d now w ih i = dead _ _ _
   row-open m v s l true false now w ih i =
-      if-below _ _ _ _ _ _ _ (λ a. goes clock (Open m v s l) (Open m v s l) now w _ (λ js l h. stay h) (ih (suc now) (Open m v s l) a))
+      if-below _ _ _ _ _ _ _ (λ a. goes clock (Open m v s l) (Open m v s l) now w _ (λ js l h. stay h) (ih (suc now) (Open m v s l) (omega arith)))
   row-open m v s l true true now w ih i =
       let b : Byte = record { value = v; «let_go» = l; take = now } in
       goes clockHeld (Open m v s l) (Hold b m) now w _ (λ js l h. leaves (i, one h)) (ih (suc now) (Hold b m) tt)
@@ -231,7 +231,7 @@ module _ (L : Limits) where
         (ih (suc now) (Acknowledgement any s now) (omega (arith, times .acknowledge, times .acknowledges))))
     row-ready-for-data any s false false now w ih i =
         if-below _ _ _ _ _ _ _
-        (λ a. goes nobody (ReadyForData any s) (ReadyForData any s) now w _ (λ js l h. stay h) (ih (suc now) (ReadyForData any s) a))
+        (λ a. goes nobody (ReadyForData any s) (ReadyForData any s) now w _ (λ js l h. stay h) (ih (suc now) (ReadyForData any s) (omega arith)))
 
     row-acknowledged : (any : Bool) (ready s : ℕ) (c d : Bool) → Row (Acknowledged any ready s) c d
     unfolding next
@@ -274,7 +274,7 @@ module _ (L : Limits) where
           splits = ap (λ x. sets d ∷ x) (h .splits);
           after = h .after;
         })
-        (ih (suc now) (SetUp m left v s d) a))
+        (ih (suc now) (SetUp m left v s d) (omega arith)))
     row-set-up m left v s true false true now w ih i = to-valid m left v s true now w ih i
     row-set-up m left v s false false false now w ih i = to-valid m left v s false now w ih i
     row-set-up m left v s true false false now w ih i = dead _ _ _
@@ -286,7 +286,7 @@ module _ (L : Limits) where
         else Stop ClockStall) now (λ (q : Phase). run L (suc now) q w))
     on-valid m left v s b now w ih i =
         if-below _ _ _ _ _ _ _
-        (λ a. goes (offers b) (Valid m left v s b) (Valid m left v s b) now w _ (λ js l h. stay h) (ih (suc now) (Valid m left v s b) a))
+        (λ a. goes (offers b) (Valid m left v s b) (Valid m left v s b) now w _ (λ js l h. stay h) (ih (suc now) (Valid m left v s b) (omega arith)))
 
     row-valid : (m : Bool) (left v s : ℕ) (b c d : Bool) → Row (Valid m left v s b) c d
     unfolding next same afterBit handover

@@ -6,11 +6,12 @@ use mathlib.Core.Bool.{Bool, true, false}
 use mathlib.Core.List.{List, [], _∷_, _++_, map}
 use lib.ListN.{length, replicate}
 use borrow.Author.Tests.{lt-ltb, le-ltb}
+use Rattle.transfer.specs.Choice.{if_then_else_}
 use Rattle.transfer.specs.Parties.{Pulls, pulls, nobody, held, clock, clockHeld, clockKept, sets, offers, Bit, bit, Frame}
 use Rattle.transfer.specs.Parties.{Sending, more, last, Plan, bitsTrack, frameTrack, sendingTrack, track}
 use Rattle.transfer.specs.Parties.{bitsTicks, byteOf, afterFrame, sendingBytes, planBytes}
 use Rattle.transfer.specs.Rules.{FrameRules, SendingRules, PlanRules}
-use Rattle.transfer.specs.Shown.{Turn, holding, waiting, sending, shownFrom, shown}
+use Rattle.transfer.specs.Shown.{Turn, holding, waiting, sending, pullsIn, shownFrom, shown}
 use Rattle.transfer.specs.Demand3.{Consistent}
 use Rattle.transfer.specs.declared.limits.Limits.{Limits}
 use Rattle.transfer.specs.declared.lines.Lines.{Lines}
@@ -59,10 +60,15 @@ holds-waits (suc k) now l js one =
 
 -- The sender's turn, within the byte b.
 module _ (b : Byte) (l : List Byte) where
+  -- By the test that its letting go is ahead.
+  abbrev turn : Bool → Turn
+  turn t = if t then sending b l else holding l
+
   sends : (now : ℕ) (c d : Bool) (w : List Lines) → now < b .«let_go»
       → shownFrom now (sending b l) (lines c d ∷ w) ≡ pulls c d false ∷ shownFrom (suc now) (sending b l) w
   unfolding shownFrom
-  sends now c d w h = rw (lt-ltb now (b .«let_go») h)
+  sends now c d w h =
+      ap (λ (t : Bool). pullsIn (turn t) c d ∷ shownFrom (suc now) (turn t) w) (lt-ltb now (b .«let_go») h)
 
   begins : (now : ℕ) (d : Bool) (w : List Lines)
       → shownFrom now (waiting (b ∷ l)) (lines true d ∷ w) ≡ pulls true d false ∷ shownFrom (suc now) (sending b l) w
@@ -72,7 +78,8 @@ module _ (b : Byte) (l : List Byte) where
   lets-go : (now : ℕ) (d : Bool) (w : List Lines) → b .«let_go» ≤ now
       → shownFrom now (sending b l) (lines true d ∷ w) ≡ shownFrom now (holding l) (lines true d ∷ w)
   unfolding shownFrom
-  lets-go now d w h = rw (le-ltb now (b .«let_go») h)
+  lets-go now d w h =
+      ap (λ (t : Bool). pullsIn (turn t) true d ∷ shownFrom (suc now) (turn t) w) (le-ltb now (b .«let_go») h)
 
   sends-set-up : (ds : List Bool) (now : ℕ) (js : List Pulls) → now + length ds ≤ b .«let_go»
       → shownFrom now (sending b l) (map shows (map sets ds ++ js))

@@ -43,10 +43,7 @@ impl State {
             return self.stop(Fault::OutOfTurn);
         }
         if lines.data {
-            return self.go(Phase::ReadyToSend {
-                any: false,
-                ended: false,
-            });
+            return self.go(Phase::ReadyToSend(false, false));
         }
         self.stop(Fault::OutOfTurn)
     }
@@ -59,7 +56,7 @@ impl State {
         let now = self.tick;
         if lines.clk {
             if lines.data {
-                return self.go(Phase::Hold { byte, mark });
+                return self.go(Phase::Hold(byte, mark));
             }
             return self.stop(Fault::OutOfTurn);
         }
@@ -67,13 +64,7 @@ impl State {
             if below(limits.between_bytes, byte.take, now) {
                 return self.stop(Fault::Hurried);
             }
-            return self.hand(
-                byte,
-                Phase::ReadyToSend {
-                    any: true,
-                    ended: mark,
-                },
-            );
+            return self.hand(byte, Phase::ReadyToSend(true, mark));
         }
         self.stop(Fault::OutOfTurn)
     }
@@ -88,11 +79,11 @@ impl State {
             return self.stop(Fault::OutOfTurn);
         }
         if lines.data {
-            return self.go(Phase::ReadyToSend { any, ended });
+            return self.go(Phase::ReadyToSend(any, ended));
         }
         if ended {
-            return self.go(Phase::End { finish: now });
+            return self.go(Phase::End(now));
         }
-        self.go(Phase::ReadyForData { any, since: now })
+        self.go(Phase::ReadyForData(any, now))
     }
 }

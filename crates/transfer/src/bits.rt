@@ -46,24 +46,12 @@ impl State {
         let now = self.tick;
         if lines.clk {
             if below(limits.set_up_most, since, now) {
-                return self.go(Phase::SetUp {
-                    mark,
-                    left,
-                    value,
-                    since,
-                    last: lines.data,
-                });
+                return self.go(Phase::SetUp(mark, left, value, since, lines.data));
             }
             return self.stop(Fault::ClockStall);
         }
         if same(last, lines.data) {
-            return self.go(Phase::Valid {
-                mark,
-                left,
-                value,
-                since: now,
-                bit: lines.data,
-            });
+            return self.go(Phase::Valid(mark, left, value, now, lines.data));
         }
         self.stop(Fault::DataMoved)
     }
@@ -89,23 +77,11 @@ impl State {
             if left == 0 {
                 return self.handover(mark, with_bit(value, bit), bit, lines.data);
             }
-            return self.go(Phase::SetUp {
-                mark,
-                left: left - 1,
-                value: with_bit(value, bit),
-                since: now,
-                last: lines.data,
-            });
+            return self.go(Phase::SetUp(mark, left - 1, with_bit(value, bit), now, lines.data));
         }
         if same(bit, lines.data) {
             if below(limits.valid_most, since, now) {
-                return self.go(Phase::Valid {
-                    mark,
-                    left,
-                    value,
-                    since,
-                    bit,
-                });
+                return self.go(Phase::Valid(mark, left, value, since, bit));
             }
             return self.stop(Fault::ClockStall);
         }

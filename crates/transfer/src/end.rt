@@ -18,6 +18,6 @@ impl State {
         if lines.data {
             return self.stop(Fault::MovedAfterEnd);
         }
-        self.go(Phase::End { finish })
+        self.go(Phase::End(finish))
     }
 }

@@ -18,13 +18,7 @@ impl State {
         let now = self.tick;
         if lines.clk {
             if below(limits.end_mark, since, now) {
-                return self.go(Phase::SetUp {
-                    mark: false,
-                    left: 7,
-                    value: 0,
-                    since: now,
-                    last: lines.data,
-                });
+                return self.go(Phase::SetUp(false, 7, 0, now, lines.data));
             }
             return self.stop(Fault::OutOfTurn);
         }
@@ -32,14 +26,10 @@ impl State {
             if below(limits.end_mark, since, now) {
                 return self.stop(Fault::OutOfTurn);
             }
-            return self.go(Phase::Acknowledgement {
-                any,
-                ready: since,
-                since: now,
-            });
+            return self.go(Phase::Acknowledgement(any, since, now));
         }
         if below(limits.end_mark_latest, since, now) {
-            return self.go(Phase::ReadyForData { any, since });
+            return self.go(Phase::ReadyForData(any, since));
         }
         self.stop(Fault::EndMarkNotAcknowledged)
     }
@@ -62,18 +52,14 @@ impl State {
         }
         if lines.data {
             if below(limits.acknowledge_most, since, now) {
-                return self.go(Phase::Acknowledgement { any, ready, since });
+                return self.go(Phase::Acknowledgement(any, ready, since));
             }
             return self.stop(Fault::AcknowledgementLong);
         }
         if below(limits.acknowledge_least, since, now) {
             return self.stop(Fault::AcknowledgementShort);
         }
-        self.go(Phase::Acknowledged {
-            any,
-            ready,
-            since: now,
-        })
+        self.go(Phase::Acknowledged(any, ready, now))
     }
 
     // G; the 512 goes on counting from the first tick of D
@@ -91,13 +77,7 @@ impl State {
         let now = self.tick;
         if lines.clk {
             if up_to(limits.response, since, now) {
-                return self.go(Phase::SetUp {
-                    mark: true,
-                    left: 7,
-                    value: 0,
-                    since: now,
-                    last: lines.data,
-                });
+                return self.go(Phase::SetUp(true, 7, 0, now, lines.data));
             }
             return self.stop(Fault::LateClock);
         }
@@ -105,7 +85,7 @@ impl State {
             return self.stop(Fault::OutOfTurn);
         }
         if below(limits.sender_timeout, ready, now) {
-            return self.go(Phase::Acknowledged { any, ready, since });
+            return self.go(Phase::Acknowledged(any, ready, since));
         }
         if any {
             return self.stop(Fault::SenderTimeout);

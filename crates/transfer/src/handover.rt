@@ -20,20 +20,11 @@ impl State {
         let now = self.tick;
         if data {
             if bit {
-                return self.go(Phase::Carried {
-                    mark,
-                    value,
-                    since: now,
-                });
+                return self.go(Phase::Carried(mark, value, now));
             }
             return self.stop(Fault::OutOfTurn);
         }
-        self.go(Phase::Open {
-            mark,
-            value,
-            since: now,
-            let_go: now,
-        })
+        self.go(Phase::Open(mark, value, now, now))
     }
 
     // Open: DATA has been seen released.
@@ -52,22 +43,17 @@ impl State {
         let now = self.tick;
         if lines.clk {
             if lines.data {
-                return self.go(Phase::Hold {
-                    byte: Byte {
+                return self.go(Phase::Hold(
+                    Byte {
                         value,
                         let_go,
                         take: now,
                     },
                     mark,
-                });
+                ));
             }
             if below(limits.take_latest, since, now) {
-                return self.go(Phase::Open {
-                    mark,
-                    value,
-                    since,
-                    let_go,
-                });
+                return self.go(Phase::Open(mark, value, since, let_go));
             }
             return self.stop(Fault::ReceiverTimeout);
         }
@@ -89,15 +75,10 @@ impl State {
         let now = self.tick;
         if lines.clk {
             if lines.data {
-                return self.go(Phase::Carried { mark, value, since });
+                return self.go(Phase::Carried(mark, value, since));
             }
             if up_to(limits.keep_most, since, now) {
-                return self.go(Phase::Open {
-                    mark,
-                    value,
-                    since,
-                    let_go: now,
-                });
+                return self.go(Phase::Open(mark, value, since, now));
             }
             return self.stop(Fault::OutOfTurn);
         }
@@ -111,10 +92,7 @@ impl State {
                     let_go: since + 1,
                     take: since + 1,
                 },
-                Phase::ReadyToSend {
-                    any: true,
-                    ended: mark,
-                },
+                Phase::ReadyToSend(true, mark),
             );
         }
         self.stop(Fault::OutOfTurn)

@@ -14,68 +14,27 @@ pub enum Phase {
     Start,
     // B, before any byte
     FirstHold,
-    // B, after a byte, which is not yet handed over
-    Hold {
-        byte: Byte,
-        mark: bool,
-    },
-    // C; `ended`: the byte just handed over had the end mark
-    ReadyToSend {
-        any: bool,
-        ended: bool,
-    },
-    // D
-    ReadyForData {
-        any: bool,
-        since: u32,
-    },
-    // F; `ready` is the first tick of D
-    Acknowledgement {
-        any: bool,
-        ready: u32,
-        since: u32,
-    },
-    // G
-    Acknowledged {
-        any: bool,
-        ready: u32,
-        since: u32,
-    },
-    // Bits: CLK pulled; `left` bits follow this one, `value` holds those before it, DATA was `last` in the tick before
-    SetUp {
-        mark: bool,
-        left: u8,
-        value: u8,
-        since: u32,
-        last: bool,
-    },
-    // Bits: CLK released
-    Valid {
-        mark: bool,
-        left: u8,
-        value: u8,
-        since: u32,
-        bit: bool,
-    },
-    // Handover, DATA seen released; `let_go` is the first such tick
-    Open {
-        mark: bool,
-        value: u8,
-        since: u32,
-        let_go: u32,
-    },
-    // Handover, bit 8 one and DATA pulled without a break
-    Carried {
-        mark: bool,
-        value: u8,
-        since: u32,
-    },
-    // E
-    End {
-        finish: u32,
-    },
+    // B, after a byte, which is not yet handed over: byte, mark
+    Hold(Byte, bool),
+    // C: any, ended; `ended`: the byte just handed over had the end mark
+    ReadyToSend(bool, bool),
+    // D: any, since
+    ReadyForData(bool, u32),
+    // F: any, ready, since; `ready` is the first tick of D
+    Acknowledgement(bool, u32, u32),
+    // G: any, ready, since
+    Acknowledged(bool, u32, u32),
+    // Bits, CLK pulled: mark, left, value, since, last; `left` bits follow this one, `value` holds those before it, and DATA
+    // was `last` in the tick before
+    SetUp(bool, u8, u8, u32, bool),
+    // Bits, CLK released: mark, left, value, since, bit
+    Valid(bool, u8, u8, u32, bool),
+    // Handover, DATA seen released: mark, value, since, let_go; `let_go` is the first such tick
+    Open(bool, u8, u32, u32),
+    // Handover, bit 8 one and DATA pulled without a break: mark, value, since
+    Carried(bool, u8, u32),
+    // E: finish
+    End(u32),
     // A verdict has fallen.
-    Decided {
-        fault: Fault,
-    },
+    Decided(Fault),
 }

@@ -66,7 +66,7 @@ impl State {
     {
         let handed = self.handed;
         State {
-            phase: Phase::Decided { fault },
+            phase: Phase::Decided(fault),
             tick: self.tick,
             count: self.count,
             handed,
@@ -82,52 +82,27 @@ impl State {
         match phase {
             Phase::Start => self.start(limits, lines),
             Phase::FirstHold => self.first_hold(limits, lines),
-            Phase::Hold { byte, mark } => self.hold(limits, byte, mark, lines),
-            Phase::ReadyToSend { any, ended } => self.ready_to_send(limits, any, ended, lines),
-            Phase::ReadyForData { any, since } => self.ready_for_data(limits, any, since, lines),
-            Phase::Acknowledgement { any, ready, since } => self.acknowledgement(
-                limits,
-                any,
-                ready,
-                since,
-                lines,
-            ),
-            Phase::Acknowledged { any, ready, since } => self.acknowledged(
-                limits,
-                any,
-                ready,
-                since,
-                lines,
-            ),
-            Phase::SetUp {
-                mark,
-                left,
-                value,
-                since,
-                last,
-            } => self.set_up(limits, mark, left, value, since, last, lines),
-            Phase::Valid {
-                mark,
-                left,
-                value,
-                since,
-                bit,
-            } => self.valid(limits, mark, left, value, since, bit, lines),
-            Phase::Open {
-                mark,
-                value,
-                since,
-                let_go,
-            } => self.open(limits, mark, value, since, let_go, lines),
-            Phase::Carried { mark, value, since } => self.carried(
-                limits,
-                mark,
-                value,
-                since,
-                lines,
-            ),
-            Phase::End { finish } => self.end(limits, finish, lines),
-            Phase::Decided { fault } => self.stop(fault),
+            Phase::Hold(byte, mark) => self.hold(limits, byte, mark, lines),
+            Phase::ReadyToSend(any, ended) => self.ready_to_send(limits, any, ended, lines),
+            Phase::ReadyForData(any, since) => self.ready_for_data(limits, any, since, lines),
+            Phase::Acknowledgement(any, ready, since) => {
+                self.acknowledgement(limits, any, ready, since, lines)
+            }
+            Phase::Acknowledged(any, ready, since) => {
+                self.acknowledged(limits, any, ready, since, lines)
+            }
+            Phase::SetUp(mark, left, value, since, last) => {
+                self.set_up(limits, mark, left, value, since, last, lines)
+            }
+            Phase::Valid(mark, left, value, since, bit) => {
+                self.valid(limits, mark, left, value, since, bit, lines)
+            }
+            Phase::Open(mark, value, since, let_go) => {
+                self.open(limits, mark, value, since, let_go, lines)
+            }
+            Phase::Carried(mark, value, since) => self.carried(limits, mark, value, since, lines),
+            Phase::End(finish) => self.end(limits, finish, lines),
+            Phase::Decided(fault) => self.stop(fault),
         }
     }
 
@@ -150,7 +125,7 @@ impl State {
         ensures { λ r. ⌜ r ≡ isDecided (self .phase) ⌝ }
     {
         let phase = self.phase;
-        if let Phase::Decided { .. } = phase {
+        if let Phase::Decided(..) = phase {
             return true;
         }
         false
@@ -162,10 +137,10 @@ impl State {
     {
         let phase = self.phase;
         let tick = self.tick;
-        if let Phase::End { finish } = phase {
+        if let Phase::End(finish) = phase {
             return Decision::complete(finish);
         }
-        if let Phase::Decided { fault } = phase {
+        if let Phase::Decided(fault) = phase {
             return Decision::broken(fault, tick);
         }
         Decision::cut(tick)
