@@ -1,21 +1,22 @@
--- A recording whose form is good has all that `GoodForm` says, and its ticks are few. Assumes nothing.
+-- A recording is not refused exactly if it has all that `GoodForm` says, and then its ticks are few. Assumes nothing.
 use Prim.Native.Nat.{ℕ, zero, suc, _+_, _*_, _<_, _≤_}
 use mathlib.Core.List.{List}
-use mathlib.Core.Path.{_≡_, sym, ap, _∙_}
+use mathlib.Core.Path.{_≡_, refl, sym, ap, _∙_}
 use native.Mathlib.Nat.{add-zero, zero-add}
 use native.Mathlib.Omega.{arith}
 use lib.Dec.{ltb}
+use borrow.Author.Tests.{le-ltb, eq-eqb}
 use lib.ListN.{length}
 use Rattle.recording.specs.Choice.{differs}
 use Rattle.recording.specs.Layout.{headerAt, stepAt, headerSize, mostSteps, longestDuration, stepPlace, fileLength}
 use Rattle.recording.specs.Ticks.{stepsFrom, stepsOf, totalTicks, ticksOf}
 use Rattle.recording.specs.Form.{headerTest, stepTest, stepsForm, bodyForm, formOf}
-use Rattle.recording.specs.GoodForm.{Bytes, GoodStep, GoodForm}
+use Rattle.recording.specs.GoodForm.{Bytes, GoodStep, GoodForm, GoodFormLaw}
 use Rattle.recording.specs.declared.form.Form.{Form}
 use Rattle.recording.specs.declared.form.Form.the-variants.{Good}
 use Rattle.recording.proofs.Tests.{good-else, good-after, same}
 use Rattle.recording.proofs.StepLaws.{total-counts}
-use Rattle.recording.proofs.PassedLaws.{header-passed, step-passed}
+use Rattle.recording.proofs.PassedLaws.{GoodHeader, header-passed, good-header-passes, step-passed, good-step-passes}
 
 -- Each of the k steps from step i on passed its test.
 steps-passed : (file : List ℕ) (k i : ℕ) (rest : Form) (n : ℕ) → stepsForm i (stepsFrom file i k) rest ≡ Good n
@@ -32,9 +33,9 @@ steps-passed file (suc k) i rest n e =
     at first later zero h = rw (add-zero i) first
     at first later (suc j) h = let z : i + suc j ≡ suc i + j = omega arith in rw z (later j (omega arith))
 
-pub good-form : (file : List ℕ) (n : ℕ) → formOf file ≡ Good n → GoodForm file n
+is-good : (file : List ℕ) (n : ℕ) → formOf file ≡ Good n → GoodForm file n
 unfolding formOf bodyForm stepsOf ticksOf
-good-form file n e =
+is-good file n e =
     let h = headerAt file in
     let long = good-else (ltb (length file) headerSize) _ 0 _ n e in
     let header = good-after (headerTest h (length file)) 0 _ n (long .1) in
@@ -43,12 +44,44 @@ good-form file n e =
     let good = header-passed h (length file) (header .0) in
     let count : h .steps ≡ n = cc in
     record {
+      version = good .version;
       counted = sym count;
       few = omega (arith, good .few);
+      offset = good .offset;
+      says-length = good .says-length ∙ ap fileLength count;
       whole = good .whole ∙ ap fileLength count;
       each = λ i less. rw zero-add at (steps .0 i (omega arith));
       total = same _ _ (total .0) ∙ total-counts (stepsOf file);
     }
+
+-- The other way: k good steps from step i on leave it to what follows them.
+steps-pass : (file : List ℕ) (k i : ℕ) (rest : Form) → ((j : ℕ) → i ≤ j → j < i + k → GoodStep (stepAt file j))
+    → stepsForm i (stepsFrom file i k) rest ≡ rest
+unfolding stepsForm stepsFrom
+steps-pass file zero i rest good = refl
+steps-pass file (suc k) i rest good =
+    rw (good-step-passes (stepAt file i) (good i (omega arith) (omega arith)))
+    (steps-pass file k (suc i) rest (λ j a b. good j (omega arith) (omega arith)))
+
+is-not-refused : (file : List ℕ) (n : ℕ) → GoodForm file n → formOf file ≡ Good n
+unfolding formOf bodyForm stepsOf ticksOf
+is-not-refused file n good =
+    let h = headerAt file in
+    let header : GoodHeader h (length file) =
+    record {
+      version = good .version;
+      few = omega (arith, good .counted, good .few);
+      offset = good .offset;
+      says-length = good .says-length ∙ ap fileLength (good .counted);
+      whole = good .whole ∙ ap fileLength (good .counted);
+    } in
+    let sum : h .total ≡ totalTicks (stepsOf file) = good .total ∙ sym (total-counts (stepsOf file)) in
+    rw (le-ltb (length file) headerSize (omega (arith, good .whole)), good-header-passes h (length file) header)
+    (steps-pass file (h .steps) 0 _ (λ j a b. good .each j (omega (arith, good .counted)))
+    ∙ rw (eq-eqb (h .total) (totalTicks (stepsOf file)) sum, ← good .counted))
+
+pub good-form : GoodFormLaw
+good-form file n = (is-good file n, is-not-refused file n)
 
 duration-fits : (file : List ℕ) → Bytes file → (i : ℕ) → stepAt file i .duration ≤ longestDuration
 duration-fits file bytes i = omega (arith, bytes (stepPlace i), bytes (stepPlace i + 1))

@@ -1,9 +1,9 @@
--- What a header and a step that passed their tests are like. Assumes nothing.
+-- A header and a step pass their tests exactly if they are good. Assumes nothing.
 use Prim.Native.Nat.{ℕ, _≤_}
 use mathlib.Core.Path.{_≡_}
 use native.Mathlib.Omega.{arith}
 use lib.Dec.{eqb, ltb, leb}
-use borrow.Author.Tests.{ltb-false, leb-false, eqb-false}
+use borrow.Author.Tests.{ltb-false, leb-false, eqb-false, le-ltb, lt-leb, eq-eqb, ne-eqb}
 use Rattle.recording.specs.Choice.{differs}
 use Rattle.recording.specs.Layout.{headerSize, goodVersion, mostSteps, lineBound, fileLength}
 use Rattle.recording.specs.Form.{headerTest, stepTest}
@@ -14,7 +14,10 @@ use Rattle.recording.specs.declared.refusal.Test.the-variants.{Passed}
 use Rattle.recording.proofs.Tests.{passed-on, same}
 
 pub record GoodHeader (h : Header) (size : ℕ) : Type 0 where
+  pub version : h .version ≡ goodVersion
   pub few : h .steps ≤ mostSteps
+  pub offset : h .offset ≡ headerSize
+  pub says-length : h .length ≡ fileLength (h .steps)
   pub whole : size ≡ fileLength (h .steps)
 
 pub header-passed : (h : Header) (size : ℕ) → headerTest h size ≡ Passed → GoodHeader h size
@@ -25,7 +28,24 @@ header-passed h size e =
     let offset = passed-on (differs (h .offset) headerSize) _ _ (steps .1) in
     let field = passed-on (differs (h .length) (fileLength (h .steps))) _ _ (offset .1) in
     let true-length = passed-on (differs size (fileLength (h .steps))) _ _ (field .1) in
-    record { few = ltb-false _ _ (steps .0); whole = same _ _ (true-length .0) }
+    record {
+      version = same _ _ (version .0);
+      few = ltb-false _ _ (steps .0);
+      offset = same _ _ (offset .0);
+      says-length = same _ _ (field .0);
+      whole = same _ _ (true-length .0);
+    }
+
+pub good-header-passes : (h : Header) (size : ℕ) → GoodHeader h size → headerTest h size ≡ Passed
+unfolding headerTest
+good-header-passes h size good =
+    rw (
+      eq-eqb (h .version) goodVersion (good .version),
+      le-ltb mostSteps (h .steps) (good .few),
+      eq-eqb (h .offset) headerSize (good .offset),
+      eq-eqb (h .length) (fileLength (h .steps)) (good .says-length),
+      eq-eqb size (fileLength (h .steps)) (good .whole),
+    )
 
 pub step-passed : (s : Step) → stepTest s ≡ Passed → GoodStep s
 unfolding stepTest
@@ -35,3 +55,9 @@ step-passed s e =
     let last = passed-on (differs (s .last) 0) _ _ (lines .1) in
     let some : s .duration ≡ 0 → ⊥ = eqb-false _ _ (duration .0) in
     record { lasts = omega arith; fourBits = leb-false _ _ (lines .0); lastZero = same _ _ (last .0) }
+
+pub good-step-passes : (s : Step) → GoodStep s → stepTest s ≡ Passed
+unfolding stepTest
+good-step-passes s good =
+    let some : s .duration ≡ 0 → ⊥ = λ z. omega (arith, good .lasts, z) in
+    rw (ne-eqb (s .duration) 0 some, lt-leb lineBound (s .lines) (good .fourBits), eq-eqb (s .last) 0 (good .lastZero))

@@ -42,7 +42,7 @@ u16At file at = byteAt file at + byteAt file (at + 1) * 256
 abbrev pub u32At : List ℕ → ℕ → ℕ
 u32At file at = u16At file at + u16At file (at + 2) * 65536
 
--- "0-1 version; 2-3 step count n; 4-7 offset of the first step; 8-11 total ticks; 12-15 file length."
+-- "0-1 version, ..; 2-3 step count n, ..; 4-7 offset of the first step, ..; 8-11 total ticks, ..; 12-15 file length, .."
 abbrev pub headerAt : List ℕ → Header
 headerAt file =
     record {

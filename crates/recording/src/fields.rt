@@ -16,14 +16,14 @@ fn join_halves(low: u16, high: u16) -> u32
     (low as u32) + (high as u32) * 65536
 }
 
-pub fn u16_at(file: &[u8], at: usize) -> u16
+pub(crate) fn u16_at(file: &[u8], at: usize) -> u16
     requires { ⌜ at + 2 ≤ length (now file) ⌝ }
     ensures { λ r. ⌜ r ≡ u16At (now (file .entry)) at ⌝ }
 {
     join_bytes(file[at], file[at + 1])
 }
 
-pub fn u32_at(file: &[u8], at: usize) -> u32
+pub(crate) fn u32_at(file: &[u8], at: usize) -> u32
     requires { ⌜ at + 4 ≤ length (now file) ⌝ }
     ensures { λ r. ⌜ r ≡ u32At (now (file .entry)) at ⌝ }
 {

@@ -11,6 +11,7 @@ use crate::refusal::Test;
 use crate::step::Step;
 
 pub enum Form {
+    // Not refused, with so many steps.
     Good { steps: usize },
     // The step is the offending one for refusals 6 and 7, otherwise 0.
     Refused { refusal: Refusal, step: u32 },

@@ -11,8 +11,9 @@ use borrow.Author.Tests.{ltb-true, ltb-false, leb-true, leb-false}
 use Rattle.transfer.specs.Choice.{if_then_else_}
 use Rattle.transfer.specs.Offsets.{below, upTo}
 use Rattle.transfer.specs.Phases.{Move, Go, Stop, next, same, withBit, handover, afterBit}
+use Rattle.transfer.specs.Verdicts.{cutAt}
 use Rattle.transfer.specs.Outcome.{Outcome}
-use Rattle.transfer.specs.Parties.{Pulls, nobody, held, clock, clockHeld, clockKept, sets, offers, Plan, track}
+use Rattle.transfer.specs.Parties.{Pulls, nobody, held, clock, clockHeld, sets, offers, Plan, track}
 use Rattle.transfer.specs.Parties.{sendingBytes, planBytes}
 use Rattle.transfer.specs.Rules.{PlanRules}
 use Rattle.transfer.specs.Demand3.{Consistent}
@@ -29,7 +30,7 @@ use Rattle.transfer.specs.declared.verdict.Verdict.{Verdict}
 use Rattle.transfer.specs.declared.verdict.Verdict.the-variants.{Complete, Cut, Broken}
 use Rattle.transfer.proofs.Run.{run, lines, onward, decided, ended, give}
 use Rattle.transfer.proofs.Forward.{shows}
-use Rattle.transfer.proofs.Shapes.{leaves, stay, one, many, Tidy, opens, carries, Shape}
+use Rattle.transfer.proofs.Shapes.{clockKept, leaves, stay, one, many, Tidy, opens, carries, Shape}
 use Rattle.transfer.proofs.Plans.{sends}
 
 abbrev IsComplete : Verdict → Type 0
@@ -39,7 +40,7 @@ IsComplete (Broken f) = ⊥
 
 -- If the outcome is complete, its bytes are as G says.
 record Sound (G : List Byte → Type 0) (o : Outcome) : Type 0 where
-  prove : IsComplete (o .verdict) → G (o .bytes)
+  prove : IsComplete (o .decision .verdict) → G (o .bytes)
 
 dead : (G : List Byte → Type 0) (f : Fault) (now : ℕ) → Sound G (decided f now)
 dead G f now = record { prove = λ h. absurd h }
@@ -188,7 +189,8 @@ module _ (L : Limits) where
   unfolding next
   row-open m v s l false d now w ih i = dead _ _ _
   row-open m v s l true false now w ih i =
-      if-below _ _ _ _ _ _ _ (λ a. goes clock (Open m v s l) (Open m v s l) now w _ (λ js l h. stay h) (ih (suc now) (Open m v s l) (omega arith)))
+      if-below _ _ _ _ _ _ _ (λ a. goes clock (Open m v s l) (Open m v s l) now w _ (λ js l h. stay h) (ih (suc now)
+      (Open m v s l) (omega arith)))
   row-open m v s l true true now w ih i =
       let b : Byte = record { value = v; «let_go» = l; take = now } in
       goes clockHeld (Open m v s l) (Hold b m) now w _ (λ js l h. leaves (i, one h)) (ih (suc now) (Hold b m) tt)
@@ -231,7 +233,8 @@ module _ (L : Limits) where
         (ih (suc now) (Acknowledgement any s now) (omega (arith, times .acknowledge, times .acknowledges))))
     row-ready-for-data any s false false now w ih i =
         if-below _ _ _ _ _ _ _
-        (λ a. goes nobody (ReadyForData any s) (ReadyForData any s) now w _ (λ js l h. stay h) (ih (suc now) (ReadyForData any s) (omega arith)))
+        (λ a. goes nobody (ReadyForData any s) (ReadyForData any s) now w _ (λ js l h. stay h) (ih (suc now)
+        (ReadyForData any s) (omega arith)))
 
     row-acknowledged : (any : Bool) (ready s : ℕ) (c d : Bool) → Row (Acknowledged any ready s) c d
     unfolding next
@@ -286,7 +289,8 @@ module _ (L : Limits) where
         else Stop ClockStall) now (λ (q : Phase). run L (suc now) q w))
     on-valid m left v s b now w ih i =
         if-below _ _ _ _ _ _ _
-        (λ a. goes (offers b) (Valid m left v s b) (Valid m left v s b) now w _ (λ js l h. stay h) (ih (suc now) (Valid m left v s b) (omega arith)))
+        (λ a. goes (offers b) (Valid m left v s b) (Valid m left v s b) now w _ (λ js l h. stay h) (ih (suc now)
+        (Valid m left v s b) (omega arith)))
 
     row-valid : (m : Bool) (left v s : ℕ) (b c d : Bool) → Row (Valid m left v s b) c d
     unfolding next same afterBit handover
@@ -338,7 +342,7 @@ module _ (L : Limits) where
     row (End f) c d = row-end f c d
     row (Decided f) c d = λ now w ih i. dead _ _ _
 
-    cut : (p : Phase) (now : ℕ) → Sound (From p now []) (record { verdict = Cut; tick = now; bytes = [] })
+    cut : (p : Phase) (now : ℕ) → Sound (From p now []) (record { decision = cutAt now; bytes = [] })
     cut p now = record { prove = λ h. absurd h }
 
     runs-out : (p : Phase) (now : ℕ) → Sound (From p now []) (ended p now)
@@ -384,7 +388,11 @@ module _ (L : Limits) where
         let s = x .after in
         record {
           plan = record { found = a .count; hold = h .count; wait = x .count; sending = s .plan };
-          rules = record { found = omega (arith, a .ends, a .after .0); hold = h .some; wait = x .some; sending = s .rules };
+          rules = record {
+            first-take = record { in-time = omega (arith, a .ends, a .after .0) };
+            first-release = record { release = h .some; let-go = x .some };
+            sending = s .rules;
+          };
           tidy = s .tidy;
           gives =
               f .gives
@@ -397,5 +405,5 @@ module _ (L : Limits) where
         }
 
     -- A complete run is given by a plan whose bytes and ticks are the judge's.
-    pub back : (w : List Lines) → run L 0 Start w .verdict ≡ Complete → Planned w (run L 0 Start w .bytes)
+    pub back : (w : List Lines) → run L 0 Start w .decision .verdict ≡ Complete → Planned w (run L 0 Start w .bytes)
     back w e = planned w _ (sound w 0 Start (omega arith) .prove (subst⁻¹ IsComplete e tt))

@@ -3,16 +3,20 @@ use Prim.Native.Nat.{ℕ, _+_, _*_, _/_, _≤_}
 use native.Mathlib.Omega.{arith}
 use mathlib.Core.Path.{_≡_}
 use mathlib.Core.Bool.{Bool, true, false}
-use mathlib.Core.List.{List, [], _∷_}
+use mathlib.Core.List.{List, [], _∷_, map}
 use lib.ListN.{length}
 use Rattle.transfer.specs.Choice.{if_then_else_}
 use Rattle.transfer.specs.Phases.{withBit}
-use Rattle.transfer.specs.Parties.{Bit, bit, valueOf}
+use Rattle.transfer.specs.Parties.{Bit, bit, lastOf, valueOf}
 
 -- The judge's way: bits taken in after `value`.
 abbrev pub takenIn : (value : ℕ) → List Bit → ℕ
 takenIn value [] = value
 takenIn value (x ∷ xs) = takenIn (withBit value (bit x)) xs
+
+-- The last of the bits, after a bit b.
+abbrev pub lastBit : Bool → List Bit → Bool
+lastBit b xs = lastOf b (map bit xs)
 
 -- A bit as a number.
 abbrev one : Bool → ℕ

@@ -10,6 +10,8 @@ use Rattle.transfer.specs.Parties.{Pulls, pulls, track}
 use Rattle.transfer.specs.Pair.{SenderPulls, senderPulls, receiverPulls, gives, values, SameOrLater}
 use Rattle.transfer.specs.Shown.{shown}
 use Rattle.transfer.specs.Demand3.{Consistent, CompleteWith, shownSender, shownReceiver, Explains, Explained, Demand3}
+use Rattle.transfer.specs.Demand3.{Demand3Law}
+use Rattle.transfer.specs.Demand3.{StandardDemand3}
 use Rattle.transfer.specs.declared.limits.Limits.{Limits}
 use Rattle.transfer.specs.declared.lines.Lines.{Lines}
 use Rattle.transfer.specs.declared.phase.Byte.{Byte}
@@ -44,10 +46,10 @@ module _ (L : Limits) (times : Consistent L) (w : List Lines) where
       subst⁻¹ (λ o. CompleteBy o ticks) (outcome-is L w) (subst (λ v. CompleteBy (run L 0 Start v) ticks) given bytes)
 
   -- A complete tick list is what a plan gives.
-  planned : outcome L w .verdict ≡ Complete → Planned L times w (outcome L w .bytes)
+  planned : outcome L w .decision .verdict ≡ Complete → Planned L times w (outcome L w .bytes)
   planned e =
       subst⁻¹ (λ (o : Outcome). Planned L times w (o .bytes)) (outcome-is L w)
-      (back L times w (ap (λ (o : Outcome). o .verdict) (sym (outcome-is L w)) ∙ e))
+      (back L times w (ap (λ (o : Outcome). o .decision .verdict) (sym (outcome-is L w)) ∙ e))
 
   shows-pair : (string : List ℕ) → CompleteWith L w string
       → Explains L w string (shownSender L w) (shownReceiver L w) (outcome L w .bytes)
@@ -82,14 +84,17 @@ module _ (L : Limits) (times : Consistent L) (w : List Lines) where
             ∙ sym (p .string-is);
       }
 
-  pub demand3 : Demand3 L w
-  demand3 =
+  explains-all : Demand3 L w
+  explains-all =
       record {
         exactly = λ string. (explained string, complete string);
         shown-pair = shows-pair;
         earliest = λ string sender receiver ticks x. reads string sender receiver ticks x .ledger;
         never = λ none e. none (values (outcome L w .bytes)) (explained _ (record { verdict = e; bytes = refl }));
       }
+
+pub demand3 : Demand3Law
+demand3 L times w = explains-all L times w
 
 pub standard-consistent : Consistent standardLimits
 standard-consistent =
@@ -108,6 +113,5 @@ standard-consistent =
       keep-release = omega arith;
     }
 
--- Demand 3 with document 01's times.
-pub standard-demand3 : (w : List Lines) → Demand3 standardLimits w
+pub standard-demand3 : StandardDemand3
 standard-demand3 w = demand3 standardLimits standard-consistent w

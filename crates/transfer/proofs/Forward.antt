@@ -13,7 +13,7 @@ use Rattle.transfer.specs.Outcome.{Outcome}
 use Rattle.transfer.specs.Parties.{Pulls, pulls, nobody, held, clock, clockHeld, sets, offers, Bit, bit, lastOf, Frame}
 use Rattle.transfer.specs.Parties.{Sending, more, last, Plan, bitsTrack, frameTrack, sendingTrack, track}
 use Rattle.transfer.specs.Parties.{bitsTicks, byteOf, afterFrame, sendingBytes, planBytes}
-use Rattle.transfer.specs.Rules.{lastBit, BitRules, AllBits, FrameRules, SendingRules, PlanRules}
+use Rattle.transfer.specs.Rules.{BitRule, BitRules, FrameRules, SendingRules, PlanRules}
 use Rattle.transfer.specs.Pair.{SameOrLater}
 use Rattle.transfer.specs.Demand3.{Consistent}
 use Rattle.transfer.specs.declared.limits.Limits.{Limits}
@@ -26,7 +26,7 @@ use Rattle.transfer.specs.declared.phase.Phase.the-variants.{End}
 use Rattle.transfer.specs.declared.verdict.Verdict.the-variants.{Complete}
 use Rattle.transfer.proofs.Run.{run, lines, onward, give, ended}
 use Rattle.transfer.proofs.HandoverTicks.{isPositive, less, handoverTicks, frameTicks, frame-ticks}
-use Rattle.transfer.proofs.ByteValue.{takenIn, eight-bits}
+use Rattle.transfer.proofs.ByteValue.{takenIn, lastBit, eight-bits}
 
 -- What the bus shows of one tick of both tracks.
 abbrev pub shows : Pulls → Lines
@@ -57,7 +57,7 @@ is-same false x y = refl
 
 -- Complete, with the bytes of `other` and no tick later than its.
 pub record CompleteBy (o : Outcome) (other : List Byte) : Type 0 where
-  pub verdict : o .verdict ≡ Complete
+  pub verdict : o .decision .verdict ≡ Complete
   pub ledger : SameOrLater (o .bytes) other
 
 -- o hands a byte over, the same as b and with ticks no later, and goes on as r.
@@ -126,7 +126,7 @@ module _ (L : Limits) where
       ∙ at-tick _ _ (omega arith)
 
   -- One bit, from the tick after its first set-up tick `s` to its last valid tick.
-  along-bit : (m : Bool) (left v s : ℕ) (x : Bit) (js : List Pulls) → 1 ≤ x .valid → BitRules L x
+  along-bit : (m : Bool) (left v s : ℕ) (x : Bit) (js : List Pulls) → 1 ≤ x .valid → BitRule L x
       → run L (suc s) (SetUp m left v s (x .first)) (map shows (map sets (x .others) ++ (replicate (x .valid) (offers (bit x)) ++ js)))
       ≡ run L (s + suc (length (x .others) + x .valid)) (Valid m left v (suc s + length (x .others)) (bit x)) (map shows js)
   unfolding next
@@ -278,7 +278,7 @@ module _ (L : Limits) where
         (not-below _ _ _ _ _ (omega arith)) (λ i x y. is-below _ _ _ _ _ (omega (arith, times .timeout)))
 
     -- Bits, from the tick after the first set-up tick to the CLK pull after the last of them, which shows DATA d.
-    along-bits : (m : Bool) (v now : ℕ) (x : Bit) (xs : List Bit) (d : Bool) (js : List Pulls) → BitRules L x → AllBits L xs
+    along-bits : (m : Bool) (v now : ℕ) (x : Bit) (xs : List Bit) (d : Bool) (js : List Pulls) → BitRule L x → BitRules L xs
         → run L (suc now) (SetUp m (length xs) v now (x .first))
         (map shows (map sets (x .others) ++ (replicate (x .valid) (offers (bit x)) ++ bitsTrack xs (sets d ∷ js))))
         ≡ onward (handover m (takenIn v (x ∷ xs)) (now + bitsTicks (x ∷ xs)) (lastBit (bit x) xs) d) (now + bitsTicks (x ∷ xs))
@@ -312,25 +312,26 @@ module _ (L : Limits) where
         → let f : Frame = record { bits = bits; let-go = l; take = t; release = n; wait = k } in
         FrameRules L f
         → Hands (run L e p (map shows (frameTicks f js))) (run L (afterFrame e f) (ReadyToSend true m) (map shows js)) (byteOf e f)
-    along-fields m p e [] l t n k js b rules = absurd (omega (arith, rules .eight))
-    along-fields m p e (x ∷ xs) l zero n k js b rules = absurd (omega (arith, rules .take-least))
-    along-fields m p e (x ∷ xs) l (suc t) zero k js b rules = absurd (omega (arith, rules .release))
+    along-fields m p e [] l t n k js b rules = absurd (omega (arith, rules .bits .eight))
+    along-fields m p e (x ∷ xs) l zero n k js b rules = absurd (omega (arith, rules .handover .take-least))
+    along-fields m p e (x ∷ xs) l (suc t) zero k js b rules = absurd (omega (arith, rules .release .after-take))
     along-fields m p e (x ∷ xs) l (suc t) (suc n) k js b rules =
-        let seven : length xs ≡ 7 = omega (arith, rules .eight) in
+        let seven : length xs ≡ 7 = omega (arith, rules .bits .eight) in
         let r =
-        along-handover m (lastBit (bit x) xs) (takenIn 0 (x ∷ xs)) (e + bitsTicks (x ∷ xs)) l t n k js (rules .let-go-zero)
-        (rules .let-go)
-        (rules .take-most) (omega (arith, rules .release, times .keep-release, times .keep)) (omega (arith, rules .release))
-        (rules .wait) in
+        along-handover m (lastBit (bit x) xs) (takenIn 0 (x ∷ xs)) (e + bitsTicks (x ∷ xs)) l t n k js (rules .handover .zero-keeps-not)
+        (rules .handover .keeps)
+        (rules .handover .take-most) (omega (arith, rules .release .after-take, times .keep-release, times .keep)) (omega
+        (arith, rules .release .after-take))
+        (rules .release .let-go) in
         record {
           handed = r .handed;
           is =
               step e p (SetUp m 7 0 e (x .first)) true (x .first) _ (b (x .first))
               ∙ seven-left m e (x .first) _ seven
-              ∙ along-bits m 0 e x xs (isPositive l) (handoverTicks n (less l) t ++ (replicate k held ++ js)) (rules .bits .0)
-              (rules .bits .1)
+              ∙ along-bits m 0 e x xs (isPositive l) (handoverTicks n (less l) t ++ (replicate k held ++ js)) (rules .bits .each .0)
+              (rules .bits .each .1)
               ∙ r .is;
-          value = r .value ∙ eight-bits (x ∷ xs) (rules .eight);
+          value = r .value ∙ eight-bits (x ∷ xs) (rules .bits .eight);
           let-go = r .let-go;
           take = r .take;
         }
@@ -362,22 +363,24 @@ module _ (L : Limits) where
     along-sending any now (more gap f rest) rules =
         let r = rules .0 in
         complete-on
-        (then-hands (along-gap any gap now _ (r .gap-least) (omega (arith, r .gap-most, times .end-mark-in-time)))
-        (along-frame false (ReadyForData any now) (now + gap) f _ (λ d. is-below _ _ _ _ _ (omega (arith, r .gap-most))) (r .frame)))
+        (then-hands (along-gap any gap now _ (r .plain .least) (omega (arith, r .plain .most, times .end-mark-in-time)))
+        (along-frame false (ReadyForData any now) (now + gap) f _ (λ d. is-below _ _ _ _ _ (omega (arith, r .plain .most))) (r .frame)))
         (along-sending true _ rest (rules .1))
     along-sending any now (last gap ack resp f silence) r =
         complete-on
         (then-hands
-        (along-mark any gap ack resp now _ (r .gap-least) (r .gap-most) (r .acknowledgement-least) (r .acknowledgement-most)
-        (r .response-least)
-        (r .response-most))
+        (along-mark any gap ack resp now _ (r .end-mark .gap-least) (r .end-mark .gap-most) (r .end-mark .acknowledgement-least)
+        (r .end-mark .acknowledgement-most)
+        (r .end-mark .response-least)
+        (r .end-mark .response-most))
         (along-frame true (Acknowledged any now (now + gap + ack)) (now + gap + ack + resp) f _
-        (λ d. is-upTo _ _ _ _ _ (omega (arith, r .response-most))) (r .frame)))
-        (subst⁻¹ (λ o. CompleteBy o []) (along-end silence _ (r .silent)) (record { verdict = refl; ledger = tt }))
+        (λ d. is-upTo _ _ _ _ _ (omega (arith, r .end-mark .response-most))) (r .frame)))
+        (subst⁻¹ (λ o. CompleteBy o []) (along-end silence _ (r .silent .some)) (record { verdict = refl; ledger = tt }))
 
     -- A plan that keeps the rules is read as complete, with the plan's bytes and each tick the plan's or an earlier one.
     pub along : (p : Plan) → PlanRules L p → CompleteBy (run L 0 Start (map shows (track p))) (planBytes p)
     along p rules =
-        subst⁻¹ (λ o. CompleteBy o (planBytes p)) (along-start (p .found) (p .hold) (p .wait) _ (rules .found) (rules .hold)
-        (rules .wait))
+        subst⁻¹ (λ o. CompleteBy o (planBytes p)) (along-start (p .found) (p .hold) (p .wait) _ (rules .first-take .in-time)
+        (rules .first-release .release)
+        (rules .first-release .let-go))
         (along-sending false _ (p .sending) (rules .sending))

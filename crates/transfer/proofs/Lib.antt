@@ -1,3 +1,4 @@
+-- Why it holds. The crate above cites Demand3, Room and Run.
 pub mod Tests
 pub mod Rows
 pub mod Run

@@ -7,16 +7,16 @@ use mathlib.Core.Bool.{Bool, true, false}
 use mathlib.Core.List.{List, [], _∷_, _++_, map}
 use lib.ListN.{length, replicate}
 use Rattle.transfer.specs.Phases.{withBit}
-use Rattle.transfer.specs.Parties.{Pulls, nobody, held, clock, clockHeld, clockKept, sets, offers, Bit, lastOf}
+use Rattle.transfer.specs.Parties.{Pulls, nobody, held, clock, clockHeld, sets, offers, Bit, lastOf}
 use Rattle.transfer.specs.Parties.{Frame, more, last, bitsTrack, frameTrack, bitsTicks}
 use Rattle.transfer.specs.Parties.{byteOf, afterFrame, sendingBytes}
-use Rattle.transfer.specs.Rules.{lastBit, AllBits, FrameRules}
+use Rattle.transfer.specs.Rules.{BitRules, FrameRules}
 use Rattle.transfer.specs.Demand3.{Consistent}
 use Rattle.transfer.specs.declared.limits.Limits.{Limits}
 use Rattle.transfer.specs.declared.phase.Byte.{Byte}
 use Rattle.transfer.proofs.HandoverTicks.{handoverTicks, frame-ticks}
-use Rattle.transfer.proofs.ByteValue.{takenIn, eight-bits}
-use Rattle.transfer.proofs.Shapes.{Stays, First, Many, many, joined, Sends, AfterC, HandsOver}
+use Rattle.transfer.proofs.ByteValue.{takenIn, lastBit, eight-bits}
+use Rattle.transfer.proofs.Shapes.{clockKept, Stays, First, Many, many, joined, Sends, AfterC, HandsOver}
 use Rattle.transfer.proofs.Shapes.{Carries, Handover, opens, carries, Bits}
 use Rattle.transfer.proofs.Shapes.{AfterD}
 
@@ -128,7 +128,7 @@ module _ (L : Limits) where
     record BitsPlan (mark b : Bool) (left value e : ℕ) (js : List Pulls) (l : List Byte) : Type 0 where
       bits : List Bit
       number : length bits ≡ left
-      rules : AllBits L bits
+      rules : BitRules L bits
       till : ℕ
       rest : List Pulls
       ends : e + bitsTicks bits ≡ till
@@ -196,14 +196,15 @@ module _ (L : Limits) where
           frame = f;
           rules =
               record {
-                eight = x .number;
-                bits = x .rules;
-                let-go = h .let-go-most;
-                let-go-zero = h .let-go-zero;
-                take-least = h .take-least;
-                take-most = h .take-most;
-                release = h .releases;
-                wait = h .waits;
+                bits = record { eight = x .number; each = x .rules };
+                handover =
+                    record {
+                      keeps = h .let-go-most;
+                      zero-keeps-not = h .let-go-zero;
+                      take-least = h .take-least;
+                      take-most = h .take-most;
+                    };
+                release = record { after-take = h .releases; let-go = h .waits };
               };
           tidy = h .tidy;
           rest = h .rest;
@@ -225,7 +226,7 @@ module _ (L : Limits) where
         let s = f .after in
         record {
           plan = more gap (f .frame) (s .plan);
-          rules = (record { gap-least = some; gap-most = omega arith; frame = f .rules }, s .rules);
+          rules = (record { plain = record { least = some; most = omega arith }; frame = f .rules }, s .rules);
           tidy = (f .tidy, s .tidy);
           is = split ∙ ap (λ x. replicate gap nobody ++ x) (f .is ∙ ap (frameTrack (f .frame)) (s .is));
           bytes =
@@ -243,14 +244,17 @@ module _ (L : Limits) where
           plan = last gap ack resp (f .frame) (suc (s .after .count));
           rules =
               record {
-                gap-least = a;
-                gap-most = b;
-                acknowledgement-least = c;
-                acknowledgement-most = d;
-                response-least = g;
-                response-most = h;
+                end-mark =
+                    record {
+                      gap-least = a;
+                      gap-most = b;
+                      acknowledgement-least = c;
+                      acknowledgement-most = d;
+                      response-least = g;
+                      response-most = h;
+                    };
                 frame = f .rules;
-                silent = omega arith;
+                silent = record { some = omega arith };
               };
           tidy = f .tidy;
           is =

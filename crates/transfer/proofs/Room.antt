@@ -11,7 +11,7 @@ use Rattle.transfer.specs.Choice.{if_then_else_}
 use Rattle.transfer.specs.Phases.{Move, Go, Hand, Stop, next}
 use Rattle.transfer.specs.States.{firstState, follow, nextState, readIn, isDecided}
 use Rattle.transfer.specs.Outcome.{Outcome, stateAfter, handedOver, outcome}
-use Rattle.transfer.specs.Room.{Step, ticks, RoomLaw}
+use Rattle.transfer.specs.Room.{Step, ticks, RoomLaw, RoomLaws}
 use Rattle.transfer.specs.declared.limits.Limits.{Limits}
 use Rattle.transfer.specs.declared.lines.Lines.{Lines}
 use Rattle.transfer.specs.declared.phase.Phase.{Phase}
@@ -115,9 +115,9 @@ module _ (L : Limits) where
           let c = tick-counts s l in
           omega (arith, eqb-false (nextState L s l .count) (s .count) e, c .least, c .most)
 
-  pub room : (steps : List Step) → RoomLaw L steps
+  keeps : (steps : List Step) → RoomLaw L steps
   unfolding outcome
-  room steps =
+  keeps steps =
       let places : 19 * length (outcome L (ticks steps) .bytes) ≤ length steps =
       subst (λ (o : Outcome). 19 * length (o .bytes) ≤ length steps) (sym (outcome-is L (ticks steps)))
       (omega (arith, fits steps 0 Start)) in
@@ -126,3 +126,6 @@ module _ (L : Limits) where
         few = λ h. omega arith;
         counted = omega (arith, counts (ticks steps) firstState);
       }
+
+pub room : RoomLaws
+room L steps = keeps L steps

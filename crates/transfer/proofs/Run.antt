@@ -10,6 +10,7 @@ use borrow.Author.Tests.{eq-eqb, ne-eqb}
 use Rattle.transfer.specs.Choice.{if_then_else_}
 use Rattle.transfer.specs.Phases.{Move, Go, Hand, Stop, next}
 use Rattle.transfer.specs.States.{firstState, follow, nextState, isDecided, decisionOf}
+use Rattle.transfer.specs.Verdicts.{brokenAt}
 use Rattle.transfer.specs.Outcome.{Outcome, stateAfter, handedIn, handedOver, outcomeFrom, outcome}
 use Rattle.transfer.specs.declared.limits.Limits.{Limits}
 use Rattle.transfer.specs.declared.lines.Lines.{Lines}
@@ -21,17 +22,16 @@ use Rattle.transfer.specs.declared.phase.Phase.the-variants.{End, Decide
 use Rattle.transfer.specs.declared.state.State.{State}
 use Rattle.transfer.specs.declared.verdict.Fault.{Fault}
 use Rattle.transfer.specs.declared.verdict.Fault.the-variants.{Attention}
-use Rattle.transfer.specs.declared.verdict.Verdict.the-variants.{Broken}
 use Rattle.transfer.proofs.Rows.{Climbs, stops, goes, hands, climbs, settled}
 
 abbrev pub decided : Fault → ℕ → Outcome
-decided fault tick = record { verdict = Broken fault; tick = tick; bytes = [] }
+decided fault tick = record { decision = brokenAt fault tick; bytes = [] }
 
 abbrev pub ended : Phase → ℕ → Outcome
-ended phase tick = record { verdict = decisionOf phase tick .verdict; tick = decisionOf phase tick .tick; bytes = [] }
+ended phase tick = record { decision = decisionOf phase tick; bytes = [] }
 
 abbrev pub give : Byte → Outcome → Outcome
-give b o = record { verdict = o .verdict; tick = o .tick; bytes = b ∷ o .bytes }
+give b o = record { decision = o .decision; bytes = b ∷ o .bytes }
 
 abbrev pub onward : Move → ℕ → (Phase → Outcome) → Outcome
 onward (Go p) now k = k p
@@ -73,8 +73,7 @@ module _ (L : Limits) where
 
   -- The outcome where a tick led from s to t.
   abbrev past : (s t : State) → List Lines → Outcome
-  past s t w =
-      record { verdict = outcomeFrom L t w .verdict; tick = outcomeFrom L t w .tick; bytes = handedIn s t ++ outcomeFrom L t w .bytes }
+  past s t w = record { decision = outcomeFrom L t w .decision; bytes = handedIn s t ++ outcomeFrom L t w .bytes }
 
   tick-read : (s t : State) (l : Lines) (w : List Lines) → nextState L s l ≡ t → outcomeFrom L s (l ∷ w) ≡ past s t w
   unfolding stateAfter handedOver

@@ -8,7 +8,7 @@ use mathlib.Core.Bool.{Bool, true, false}
 use mathlib.Core.List.{List, [], _∷_, _++_, map}
 use lib.ListN.{length, replicate}
 use Rattle.transfer.specs.Phases.{withBit}
-use Rattle.transfer.specs.Parties.{Pulls, nobody, held, clock, clockHeld, clockKept, sets, offers, lastOf, Sending}
+use Rattle.transfer.specs.Parties.{Pulls, pulls, nobody, held, clock, clockHeld, sets, offers, lastOf, Sending}
 use Rattle.transfer.specs.Parties.{more, last, sendingTrack, sendingBytes}
 use Rattle.transfer.specs.Rules.{SendingRules}
 use Rattle.transfer.specs.declared.limits.Limits.{Limits}
@@ -17,6 +17,10 @@ use Rattle.transfer.specs.declared.phase.Phase.{Phase}
 use Rattle.transfer.specs.declared.phase.Phase.the-variants.{Start, FirstHold, Hold, ReadyToSend, ReadyForData}
 use Rattle.transfer.specs.declared.phase.Phase.the-variants.{Acknowledgement, Acknowledged, SetUp, Valid, Open, Carried}
 use Rattle.transfer.specs.declared.phase.Phase.the-variants.{End, Decided}
+
+-- The sender pulls CLK and keeps DATA.
+abbrev pub clockKept : Pulls
+clockKept = pulls true true false
 
 -- The rest of the tracks from a tick on, and the bytes that are handed over in it.
 abbrev pub Rest : Type 1

@@ -7,7 +7,7 @@ use mathlib.Core.List.{List, [], _∷_, _++_, map}
 use lib.ListN.{length, replicate}
 use borrow.Author.Tests.{lt-ltb, le-ltb}
 use Rattle.transfer.specs.Choice.{if_then_else_}
-use Rattle.transfer.specs.Parties.{Pulls, pulls, nobody, held, clock, clockHeld, clockKept, sets, offers, Bit, bit, Frame}
+use Rattle.transfer.specs.Parties.{Pulls, pulls, nobody, held, clock, clockHeld, sets, offers, Bit, bit, Frame}
 use Rattle.transfer.specs.Parties.{Sending, more, last, Plan, bitsTrack, frameTrack, sendingTrack, track}
 use Rattle.transfer.specs.Parties.{bitsTicks, byteOf, afterFrame, sendingBytes, planBytes}
 use Rattle.transfer.specs.Rules.{FrameRules, SendingRules, PlanRules}
@@ -19,7 +19,7 @@ use Rattle.transfer.specs.declared.phase.Byte.{Byte}
 use Rattle.transfer.proofs.Run.{lines}
 use Rattle.transfer.proofs.Forward.{shows}
 use Rattle.transfer.proofs.HandoverTicks.{handoverTicks, frameTicks, frame-ticks}
-use Rattle.transfer.proofs.Shapes.{Tidy}
+use Rattle.transfer.proofs.Shapes.{clockKept, Tidy}
 
 at-tick : (t : Turn) (w : List Lines) {a b : ℕ} → a ≡ b → shownFrom a t w ≡ shownFrom b t w
 at-tick t w e = ap (λ (now : ℕ). shownFrom now t w) e
@@ -149,7 +149,7 @@ module _ (L : Limits) (times : Consistent L) where
       FrameRules L f → k ≤ t
       → shownFrom now (waiting (byteOf now f ∷ l)) (map shows (frameTicks f js))
       ≡ frameTicks f (shownFrom (afterFrame now f) (waiting l) (map shows js))
-  shows-fields [] k t n wait now l js rules tidy = absurd (omega (arith, rules .eight))
+  shows-fields [] k t n wait now l js rules tidy = absurd (omega (arith, rules .bits .eight))
   shows-fields (x ∷ xs) k t n wait now l js rules tidy =
       let b = byteOf now (record { bits = x ∷ xs; let-go = k; take = t; release = n; wait = wait }) in
       begins b l now (x .first) _
@@ -158,9 +158,9 @@ module _ (L : Limits) (times : Consistent L) where
       ∙ ap (λ y. map sets (x .others) ++ (replicate (x .valid) (offers (bit x)) ++ y))
       (sends-bits b l xs (suc now + length (x .others) + x .valid) _ (omega arith)
       ∙ ap (bitsTrack xs)
-      (sends-handover b l k t n _ _ (omega arith) tidy (omega (arith, rules .release, times .keep, times .keep-release))
+      (sends-handover b l k t n _ _ (omega arith) tidy (omega (arith, rules .release .after-take, times .keep, times .keep-release))
       ∙ ap (λ y. handoverTicks n k t ++ y)
-      (holds-waits wait _ l js (rules .wait)
+      (holds-waits wait _ l js (rules .release .let-go)
       ∙ ap (λ y. replicate wait held ++ y) (at-tick (waiting l) (map shows js) (omega arith))))))
 
   shows-frame : (f : Frame) (now : ℕ) (l : List Byte) (js : List Pulls) → FrameRules L f → f .let-go ≤ f .take
@@ -200,5 +200,5 @@ module _ (L : Limits) (times : Consistent L) where
       (at-tick (holding (planBytes p)) _ (omega arith)
       ∙ holds-on true (p .hold) (p .found) _ _
       ∙ ap (λ x. replicate (p .hold) clockHeld ++ x)
-      (holds-waits (p .wait) (p .found + p .hold) _ _ (rules .wait)
+      (holds-waits (p .wait) (p .found + p .hold) _ _ (rules .first-release .let-go)
       ∙ ap (λ x. replicate (p .wait) held ++ x) (shows-sending (p .found + p .hold + p .wait) (p .sending) (rules .sending) tidy)))

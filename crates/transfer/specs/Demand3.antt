@@ -4,6 +4,7 @@ use mathlib.Core.Path.{_≡_}
 use mathlib.Core.Logic.{_↔_}
 use mathlib.Core.Bool.{Bool}
 use mathlib.Core.List.{List, map}
+use Rattle.transfer.specs.Limits.{standardLimits}
 use Rattle.transfer.specs.Outcome.{outcome}
 use Rattle.transfer.specs.Pair.{SenderPulls, senderPulls, receiverPulls, gives, values, Pair, SameOrLater}
 use Rattle.transfer.specs.Shown.{shown}
@@ -14,20 +15,20 @@ use Rattle.transfer.specs.declared.verdict.Verdict.the-variants.{Complet
 
 -- What the times have to keep among themselves.
 pub record Consistent (L : Limits) : Type 0 where
-  -- D: a CLK pull without the end mark is possible, and allowed as long as D may last
+  -- D: a silence that means an end mark lasts a tick at the least; before it the byte may begin; D outlasts its first tick.
   pub end-mark : 1 ≤ L .«end_mark»
   pub end-mark-in-time : L .«end_mark» ≤ suc (L .«end_mark_latest»)
   pub ready-for-data : 1 ≤ L .«end_mark_latest»
-  -- F
+  -- F: an acknowledgement lasts a tick at the least, and may be long enough.
   pub acknowledge : 1 ≤ L .«acknowledge_least»
   pub acknowledges : L .«acknowledge_least» ≤ L .«acknowledge_most»
-  -- G: the sender's time-out doesn't cut its response off
+  -- G: the time-out doesn't cut the sender's response off.
   pub timeout : L .«end_mark_latest» + L .«acknowledge_most» + L .response ≤ L .«sender_timeout»
-  -- Bits
+  -- Bits: set-up and valid time last a tick at the least, and a bit may be valid long enough.
   pub set-up : 1 ≤ L .«set_up_most»
   pub valid : 1 ≤ L .«valid_least»
   pub valids : L .«valid_least» ≤ L .«valid_most»
-  -- Handover: the sender may keep DATA for a tick, stops before the receiver's time is over, and before CLK is released
+  -- Handover: the sender may keep DATA for a tick, and stops before the receiver's time is over and before CLK is released.
   pub keep : 1 ≤ L .«keep_most»
   pub keep-take : L .«keep_most» < L .«take_latest»
   pub keep-release : L .«keep_most» ≤ L .«between_bytes»
@@ -39,7 +40,7 @@ module _ (L : Limits) (w : List Lines) where
 
   -- "Complete with a string".
   pub record CompleteWith (string : List ℕ) : Type 0 where
-    pub verdict : outcome L w .verdict ≡ Complete
+    pub verdict : outcome L w .decision .verdict ≡ Complete
     pub bytes : values ledger ≡ string
 
   -- The tracks of "the shown pair".
@@ -62,7 +63,7 @@ module _ (L : Limits) (w : List Lines) where
     pub explains : Explains string sender receiver ticks
 
   pub record Demand3 : Type 0 where
-    -- "complete exactly when some rule-keeping sender and receiver could have made the recording"
+    -- Complete with a string exactly if a pair for it gives the ticks.
     pub exactly : (string : List ℕ) → CompleteWith string ↔ Explained string
     -- The shown pair "is a pair for the string, it gives the recording, and its two ticks for each byte are the ledger's".
     pub shown-pair : (string : List ℕ) → CompleteWith string → Explains string shownSender shownReceiver ledger
@@ -70,4 +71,11 @@ module _ (L : Limits) (w : List Lines) where
     pub earliest : (string : List ℕ) (sender : List SenderPulls) (receiver : List Bool) (ticks : List Byte)
         → Explains string sender receiver ticks → SameOrLater ledger ticks
     -- If no pair exists for any string, it is never complete.
-    pub never : ((string : List ℕ) → Explained string → ⊥) → outcome L w .verdict ≡ Complete → ⊥
+    pub never : ((string : List ℕ) → Explained string → ⊥) → outcome L w .decision .verdict ≡ Complete → ⊥
+
+-- Demand 3 for every tick list and all times that are consistent; and at document 01's own.
+abbrev pub Demand3Law : Type 0
+Demand3Law = (L : Limits) → Consistent L → (w : List Lines) → Demand3 L w
+
+abbrev pub StandardDemand3 : Type 0
+StandardDemand3 = (w : List Lines) → Demand3 standardLimits w

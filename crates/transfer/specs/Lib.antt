@@ -1,3 +1,4 @@
+-- What one transfer is: the judge's table, the two parties' rules, and what holds of the two.
 pub mod Choice
 pub mod Lines
 pub mod Limits

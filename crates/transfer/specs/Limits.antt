@@ -1,18 +1,18 @@
 -- The times of document 01: "each house time has one name, used wherever the time is meant". H marks a house limit, 000 and 003
--- the source of the others.
+-- the source that gives the others, also where document 01's row does not name it.
 use Rattle.transfer.specs.declared.limits.Limits.{Limits}
 
 abbrev pub standardLimits : Limits
 standardLimits =
     record {
       presence = 256;  -- A: the last tick at which a receiver may first take DATA (000)
-      «between_bytes» = 100;  -- B: from a take to the next release of CLK, at the least (000)
+      «between_bytes» = 100;  -- B, carried: from a take to the next release of CLK, at the least (000)
       «end_mark» = 200;  -- D: silence that long means an end mark; CLK pulled before it, none (003)
-      «end_mark_latest» = 290;  -- D: the last offset of the silence (H)
+      «end_mark_latest» = 290;  -- D: the latest start of an acknowledgement (H)
       «acknowledge_least» = 60;  -- F: the shortest acknowledgement (003)
       «acknowledge_most» = 150;  -- F: the longest acknowledgement (H)
       response = 60;  -- G: the last offset of the CLK pull (003)
-      «sender_timeout» = 512;  -- G: silence that long, from D's first tick on, is a time-out (000)
+      «sender_timeout» = 512;  -- G: no CLK pull that long after D's first tick is a time-out (000)
       «set_up_most» = 200;  -- Bits: the most ticks of a set-up (H)
       «valid_least» = 20;  -- Bits: the fewest valid ticks (003)
       «valid_most» = 200;  -- Bits: the most valid ticks (H)

@@ -1,4 +1,5 @@
--- What one tick shows. Document 01, "Recording layout": bit 0 ATN, 1 CLK, 2 DATA, 3 SRQ; a line is 1 when pulled.
+-- What one tick shows. "A line is 1 when pulled, 0 when released by everybody." In the line byte "bit 0 ATN, 1 CLK,
+-- 2 DATA, 3 SRQ".
 -- "SRQ is read and changes no answer": it is no part of what the judge is shown.
 use Prim.Native.Nat.{ℕ, _/_, _%_}
 use lib.Dec.{eqb}

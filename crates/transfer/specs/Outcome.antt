@@ -1,5 +1,4 @@
 -- The outcome of a tick list: verdict, deciding tick, the bytes handed over and for each its two ledger ticks.
-use Prim.Native.Nat.{ℕ}
 use mathlib.Core.List.{List, [], _∷_, _++_}
 use lib.Dec.{eqb}
 use Rattle.transfer.specs.Choice.{if_then_else_}
@@ -8,11 +7,11 @@ use Rattle.transfer.specs.declared.limits.Limits.{Limits}
 use Rattle.transfer.specs.declared.lines.Lines.{Lines}
 use Rattle.transfer.specs.declared.phase.Byte.{Byte}
 use Rattle.transfer.specs.declared.state.State.{State}
-use Rattle.transfer.specs.declared.verdict.Verdict.{Verdict}
+use Rattle.transfer.specs.declared.verdict.Decision.{Decision}
 
+-- A verdict with its deciding tick, and the ledger: each byte handed over with its two ticks.
 pub record Outcome : Type 0 where
-  pub verdict : Verdict
-  pub tick : ℕ
+  pub decision : Decision
   pub bytes : List Byte
 
 -- The state after the ticks.
@@ -33,8 +32,7 @@ handedOver L s (l ∷ w) = handedIn s (nextState L s l) ++ handedOver L (nextSta
 abbrev pub outcomeFrom : Limits → State → List Lines → Outcome
 outcomeFrom L s w =
     let end = stateAfter L s w in
-    let decision = decisionOf (end .phase) (end .tick) in
-    record { verdict = decision .verdict; tick = decision .tick; bytes = handedOver L s w }
+    record { decision = decisionOf (end .phase) (end .tick); bytes = handedOver L s w }
 
 unfoldable pub outcome : Limits → List Lines → Outcome
 outcome L w = outcomeFrom L firstState w

@@ -27,6 +27,7 @@ abbrev pub receiverTrack : Plan → List Bool
 receiverTrack p = map receiverPulls (track p)
 
 -- "The pair gives the recording if ATN is released, CLK is the sender's and DATA is pulled exactly when either pulls."
+-- Both tracks of a pair come from one plan, so they are of one length.
 abbrev pub gives : List SenderPulls → List Bool → List Lines
 gives [] receiver = []
 gives (s ∷ sender) [] = []

@@ -1,5 +1,5 @@
 -- "The two parties' own rules" of document 01: what a sender and a receiver choose, and the tracks that this makes.
--- Nothing here comes from the judge's phases; both share the times and the ledger's record alone.
+-- Nothing here comes from the judge's phases: the two share the times, what a tick shows and the ledger's record alone.
 use Prim.Native.Nat.{ℕ, zero, suc, _+_}
 use mathlib.Core.Bool.{Bool, true, false}
 use mathlib.Core.List.{List, [], _∷_, _++_, map}
@@ -12,7 +12,7 @@ use Rattle.transfer.specs.declared.phase.Byte.{Byte}
 pub data Pulls : Type 0 where
   pulls : (clk sender receiver : Bool) → Pulls
 
--- The ticks that occur. "No other pulls occur."
+-- The ticks that tracks are made of, beside those of a handover. "No other pulls occur."
 -- Nobody pulls; the receiver pulls DATA.
 abbrev pub nobody : Pulls
 nobody = pulls false false false
@@ -20,15 +20,12 @@ nobody = pulls false false false
 abbrev pub held : Pulls
 held = pulls false false true
 
--- The sender pulls CLK alone; with the receiver on DATA; with its own DATA.
+-- The sender pulls CLK; the receiver DATA beside it.
 abbrev pub clock : Pulls
 clock = pulls true false false
 
 abbrev pub clockHeld : Pulls
 clockHeld = pulls true false true
-
-abbrev pub clockKept : Pulls
-clockKept = pulls true true false
 
 -- The sender's DATA d in a set-up tick, CLK pulled, and in a valid tick, CLK released.
 abbrev pub sets : Bool → Pulls
@@ -51,7 +48,7 @@ lastOf d (e ∷ others) = lastOf e others
 abbrev pub bit : Bit → Bool
 bit x = lastOf (x .first) (x .others)
 
--- A byte: its bits, then, counted from the CLK pull after bit 8, the offsets of the sender's letting go of DATA (0 where it
+-- A byte as it is sent: its bits, then, counted from the CLK pull after bit 8, the offsets of the sender's letting go of DATA (0 where it
 -- doesn't pull on), of the receiver's take and of the sender's release of CLK; then the ticks until the receiver lets go.
 pub record Frame : Type 0 where
   pub bits : List Bit

@@ -43,7 +43,7 @@ handover mark value now false true = Stop OutOfTurn
 handover mark value now bit false = Go (Open mark value now now)
 handover mark value now true true = Go (Carried mark value now)
 
--- After a bit of which `left` follow: the handover, or the next bit's set-up.
+-- After a bit that `left` more follow: the handover, or the next bit's set-up.
 unfoldable pub afterBit : (left : ℕ) → Move → (ℕ → Move) → Move
 afterBit zero last more = last
 afterBit (suc left) last more = more left
@@ -55,7 +55,7 @@ next L now Start false d = if eqb now 0 then Stop BadStart else Stop OutOfTurn
 next L now Start true true = Go FirstHold
 -- "(1,0): stay; at offset 256 it is 24 instead (000)."
 next L now Start true false = if below (L .presence) 0 now then Go Start else Stop NoReceiver
--- B hold, before any byte. "(1,1): stay. (0,1): go to C. DATA released: 26."
+-- B hold, before any byte. "(1,1): stay. (0,1): go to C; .. DATA released: 26."
 next L now FirstHold true true = Go FirstHold
 next L now FirstHold false true = Go (ReadyToSend false false)
 next L now FirstHold c false = Stop OutOfTurn
@@ -74,7 +74,8 @@ next L now (ReadyToSend any false) false false = Go (ReadyForData any now)
 next L now (ReadyToSend any true) false false = Go (End now)
 -- "CLK pulled: 26."
 next L now (ReadyToSend any ended) true d = Stop OutOfTurn
--- D ready for data. "CLK pulled at offset 1 to 199: bits, no end mark. CLK pulled later: 26."
+-- D ready for data. No tick meets it at offset 0, where (0,0) leads in, nor above 290, where (0,0) was 27: the rows need not
+-- test that. "CLK pulled at offset 1 to 199: bits, no end mark. CLK pulled later: 26."
 next L now (ReadyForData any since) true d =
     if below (L .«end_mark») since now then Go (SetUp false 7 0 now d) else Stop OutOfTurn
 -- "(0,1) before offset 200: 26. (0,1) at 200 to 290 (H above 200): go to F, end mark."
@@ -114,7 +115,7 @@ next L now (Valid mark left value since bit) false d =
 next L now (Valid mark left value since bit) true d =
     if below (L .«valid_least») since now then Stop ValidTimeShort
     else afterBit left (handover mark (withBit value bit) now bit d) (λ left. Go (SetUp mark left (withBit value bit) now d))
--- Handover. "CLK released while DATA has been open ..: 26."
+-- Handover; its offset 0 is `handover`, above. "CLK released while DATA has been open ..: 26."
 next L now (Open mark value since let-go) false d = Stop OutOfTurn
 -- "Open (DATA has been seen released): (1,0) stays; at offset 1,000 it is 35."
 next L now (Open mark value since let-go) true false =
@@ -138,5 +139,5 @@ next L now (Carried mark value since) false true =
 next L now (End finish) false false = Go (End finish)
 next L now (End finish) false true = Stop MovedAfterEnd
 next L now (End finish) true d = Stop MovedAfterEnd
--- "Stops for good at the deciding tick."
+-- A verdict stands. `nextState` sees to it before this table is asked.
 next L now (Decided fault) c d = Stop fault

@@ -31,6 +31,10 @@ till41 = opening 220 80 ++ bits (4 ∷ 0 ∷ 0 ∷ 0 ∷ 0 ∷ 0 ∷ 4 ∷ 0 ∷
 abbrev pub till80 : List Step
 till80 = opening 220 80 ++ bits (0 ∷ 0 ∷ 0 ∷ 0 ∷ 0 ∷ 0 ∷ 0 ∷ 4 ∷ [])
 
+-- The byte 0x41 as a first byte that is not the last.
+abbrev pub plain41 : List Step
+plain41 = 200 ∶ 6 ∷ 50 ∶ 4 ∷ 60 ∶ 0 ∷ bits (4 ∷ 0 ∷ 0 ∷ 0 ∷ 0 ∷ 0 ∷ 4 ∷ 0 ∷ [])
+
 -- A tick list, and the number, tick and count that it comes to.
 pub record Reading : Type 0 where
   pub steps : List Step
@@ -48,8 +52,9 @@ readings =
     ∷ reads (till41 ++ (30 ∶ 2 ∷ 200 ∶ 6 ∷ 50 ∶ 4 ∷ [])) 22 1910 1
     -- A 201st valid tick in which DATA moved: 33, whose row is the earlier one.
     ∷ reads (opening 220 80 ++ (70 ∶ 6 ∷ 200 ∶ 4 ∷ 1 ∶ 0 ∷ [])) 33 860 0
-    -- A CLK pull after 19 valid ticks, with DATA moved in the same tick: 32.
+    -- A CLK pull after 19 valid ticks: 32, also with DATA moved in the same tick, and after bit 8.
     ∷ reads (opening 220 80 ++ (70 ∶ 6 ∷ 19 ∶ 4 ∷ 1 ∶ 2 ∷ [])) 32 679 0
+    ∷ reads (opening 220 80 ++ (bits (0 ∷ 0 ∷ 0 ∷ 0 ∷ 0 ∷ 0 ∷ 0 ∷ []) ++ (70 ∶ 2 ∷ 19 ∶ 0 ∷ 1 ∶ 6 ∷ []))) 32 1589 0
     -- Carried: DATA released with CLK is 26 and not 36.
     ∷ reads (till80 ++ (50 ∶ 6 ∷ 1 ∶ 0 ∷ [])) 26 1680 0
     -- Carried has no upper end: 35 never falls there.
@@ -58,14 +63,19 @@ readings =
     ∷ reads (till80 ++ (100 ∶ 6 ∷ 901 ∶ 2 ∷ [])) 35 2630 0
     -- Open at offset 1,000: CLK released is 26 and not 35.
     ∷ reads (till41 ++ (1000 ∶ 2 ∷ 1 ∶ 4 ∷ [])) 26 2630 0
-    -- B, too soon: both released is 26; 36 is for (0,1) alone.
+    -- B, too soon: both released is 26; 36 is for (0,1) alone, and the byte is not counted. The first B has no such time.
     ∷ reads (till41 ++ (30 ∶ 2 ∷ 50 ∶ 6 ∷ 1 ∶ 0 ∷ [])) 26 1710 0
+    ∷ reads (till41 ++ (30 ∶ 2 ∷ 50 ∶ 6 ∷ 1 ∶ 4 ∷ [])) 36 1710 0
+    ∷ reads (50 ∶ 6 ∷ 50 ∶ 4 ∷ []) 22 100 0
     -- C: the byte is handed over on entering it, and a fault in it counts the byte.
     ∷ reads (till41 ++ (30 ∶ 2 ∷ 200 ∶ 6 ∷ 50 ∶ 4 ∷ 1 ∶ 2 ∷ [])) 26 1910 1
     -- At the last offset of a phase the rows of CLK and DATA come first: A at 256, D at 290, F at 150, G at 512 after D.
     ∷ reads (256 ∶ 2 ∷ 1 ∶ 0 ∷ []) 26 256 0
     ∷ reads (opening 290 150) 22 730 0
     ∷ reads (200 ∶ 6 ∷ 50 ∶ 4 ∷ 220 ∶ 0 ∷ 80 ∶ 4 ∷ 212 ∶ 0 ∷ 1 ∶ 2 ∷ []) 30 762 0
+    -- The 512 counts from D's first tick, through the acknowledgement: 21 with no byte handed over, 31 after one.
+    ∷ reads (opening 220 80 ++ (300 ∶ 0 ∷ [])) 21 762 0
+    ∷ reads (plain41 ++ (30 ∶ 2 ∷ 200 ∶ 6 ∷ 50 ∶ 4 ∷ 220 ∶ 0 ∷ 80 ∶ 4 ∷ 300 ∶ 0 ∷ [])) 31 2142 1
     -- A verdict stands: ATN pulled later changes nothing.
     ∷ reads (1 ∶ 0 ∷ 1 ∶ 1 ∷ []) 25 0 0
     -- No ticks at all.
@@ -75,7 +85,7 @@ readings =
 abbrev pub holds : Reading → Bool
 holds r =
     let o = outcome standardLimits (ticks (r .steps)) in
-    eqb (verdictNumber (o .verdict)) (r .number) && (eqb (o .tick) (r .tick) && eqb (length (o .bytes)) (r .count))
+    eqb (verdictNumber (o .decision .verdict)) (r .number) && (eqb (o .decision .tick) (r .tick) && eqb (length (o .bytes)) (r .count))
 
 abbrev pub allHold : List Reading → Bool
 allHold [] = true

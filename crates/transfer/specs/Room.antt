@@ -25,3 +25,6 @@ pub record RoomLaw (L : Limits) (steps : List Step) : Type 0 where
   pub few : length steps ≤ 16000 → length (outcome L (ticks steps) .bytes) < 1000
   -- The state's count is the number of bytes handed over.
   pub counted : stateAfter L firstState (ticks steps) .count ≡ length (outcome L (ticks steps) .bytes)
+
+abbrev pub RoomLaws : Type 0
+RoomLaws = (L : Limits) (steps : List Step) → RoomLaw L steps

@@ -24,7 +24,8 @@ follow s (Go phase) = record { phase = phase; tick = s .tick + 1; count = s .cou
 follow s (Hand byte phase) = record { phase = phase; tick = s .tick + 1; count = s .count + 1; handed = byte }
 follow s (Stop fault) = record { phase = Decided fault; tick = s .tick; count = s .count; handed = s .handed }
 
--- The state after a tick with ATN released that is read in the given phase.
+-- The state after a tick with ATN released that is read by the rows of a phase. The phase stands beside the state, so that the
+-- method of one phase can promise its rows.
 abbrev pub readIn : Limits → State → Phase → Lines → State
 readIn L s phase lines = follow s (next L (s .tick) phase (lines .clk) (lines .«data»))
 

@@ -30,6 +30,7 @@ fn with_bit(value: u8, bit: bool) -> u8
 }
 
 impl State {
+    // Set-up: CLK pulled, DATA free.
     pub(crate) fn set_up(
         self,
         limits: Limits,
@@ -56,6 +57,7 @@ impl State {
         self.stop(Fault::DataMoved)
     }
 
+    // Valid: CLK released, DATA steady.
     pub(crate) fn valid(
         self,
         limits: Limits,

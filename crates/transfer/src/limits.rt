@@ -1,4 +1,5 @@
-// The times of document 01, in ticks of 1 µs. Each has one name, used wherever that time is meant.
+// The times of document 01, in ticks of 1 µs. Each has one name, used wherever that time is meant. H marks a house limit, 000 and
+// 003 the source that gives the others.
 ghost use mathlib.Core.Path.{_≡_};
 ghost use Rattle.transfer.specs.Limits.{standardLimits};
 
@@ -33,7 +34,7 @@ impl Limits {
     pub const ACKNOWLEDGE_MOST: u32 = 150;
     // The latest CLK pull after the acknowledgement (003).
     pub const RESPONSE: u32 = 60;
-    // Silence this long after the letting go is an empty stream or a sender time-out (000).
+    // No CLK pull this long after the letting go is an empty stream or a sender time-out (000).
     pub const SENDER_TIMEOUT: u32 = 512;
     // The most ticks of a set-up (H).
     pub const SET_UP_MOST: u32 = 200;

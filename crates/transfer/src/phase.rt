@@ -1,4 +1,4 @@
-// The phases of document 01, each with just the numbers that its rows read.
+// The phases of document 01, each with just the numbers that its rows read or hand on.
 use crate::verdict::Fault;
 
 // A byte with its two ledger ticks: the sender lets go of DATA, the receiver takes it.
@@ -8,7 +8,8 @@ pub struct Byte {
     pub take: u32,
 }
 
-// `since` is the phase's first tick. `any`: a byte was handed over. `mark`: the byte has the end mark.
+// `since` is the phase's first tick, and in the handover its offset 0, open or carried. `any`: a byte was handed over. `mark`: the
+// byte has the end mark.
 pub enum Phase {
     // A
     Start,
