@@ -15,7 +15,8 @@ use Rattle.transfer.specs.declared.verdict.Verdict.the-variants.{Complet
 
 -- What the times have to keep among themselves.
 pub record Consistent (L : Limits) : Type 0 where
-  -- D: a silence that means an end mark lasts a tick at the least; before it the byte may begin; D outlasts its first tick.
+  -- D: the silence of an end mark lasts a tick at the least; D lasts as long as a byte without one may begin, and a tick at the
+  -- least.
   pub end-mark : 1 ≤ L .«end_mark»
   pub end-mark-in-time : L .«end_mark» ≤ suc (L .«end_mark_latest»)
   pub ready-for-data : 1 ≤ L .«end_mark_latest»

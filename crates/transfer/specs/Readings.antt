@@ -50,6 +50,9 @@ readings =
     -- S1 of document 01, and the same without its last step.
     reads (till41 ++ (30 ∶ 2 ∷ 200 ∶ 6 ∷ 50 ∶ 4 ∷ 100 ∶ 0 ∷ [])) 20 1910 1
     ∷ reads (till41 ++ (30 ∶ 2 ∷ 200 ∶ 6 ∷ 50 ∶ 4 ∷ [])) 22 1910 1
+    -- A 201st set-up tick, and a 201st valid tick: 34.
+    ∷ reads (opening 220 80 ++ (201 ∶ 6 ∷ [])) 34 790 0
+    ∷ reads (opening 220 80 ++ (70 ∶ 6 ∷ 201 ∶ 4 ∷ [])) 34 860 0
     -- A 201st valid tick in which DATA moved: 33, whose row is the earlier one.
     ∷ reads (opening 220 80 ++ (70 ∶ 6 ∷ 200 ∶ 4 ∷ 1 ∶ 0 ∷ [])) 33 860 0
     -- A CLK pull after 19 valid ticks: 32, also with DATA moved in the same tick, and after bit 8.
