@@ -13,7 +13,8 @@ use Rattle.transfer.specs.Outcome.{Outcome}
 use Rattle.transfer.specs.Parties.{Pulls, pulls, nobody, held, clock, clockHeld, sets, offers, Bit, bit, lastOf, Frame}
 use Rattle.transfer.specs.Parties.{Sending, more, last, Plan, bitsTrack, frameTrack, sendingTrack, track}
 use Rattle.transfer.specs.Parties.{bitsTicks, byteOf, afterFrame, sendingBytes, planBytes}
-use Rattle.transfer.specs.Rules.{BitRule, BitRules, FrameRules, SendingRules, PlanRules}
+use Rattle.transfer.specs.Rules.{FirstTakeRule, FirstReleaseRule, EndMarkRule, BitRule, BitRules, FrameRules}
+use Rattle.transfer.specs.Rules.{SendingRules, PlanRules}
 use Rattle.transfer.specs.Pair.{SameOrLater}
 use Rattle.transfer.specs.Demand3.{Consistent}
 use Rattle.transfer.specs.declared.limits.Limits.{Limits}
@@ -104,15 +105,15 @@ module _ (L : Limits) where
       ∙ at-tick q (map shows js) (omega arith)
 
   -- A, B and C, up to the first letting go.
-  along-start : (found hold wait : ℕ) (js : List Pulls) → found ≤ L .presence → 1 ≤ hold → 1 ≤ wait
+  along-start : (found hold wait : ℕ) (js : List Pulls) → FirstTakeRule L found → FirstReleaseRule L hold wait
       → run L 0 Start (map shows (replicate found clock ++ (replicate hold clockHeld ++ (replicate wait held ++ js))))
       ≡ run L (found + hold + wait) (ReadyToSend false false) (map shows js)
   unfolding next
-  along-start f h w js a b c =
-      stays Start true false false f 0 _ (λ i x y. is-below _ _ _ _ _ (omega arith))
+  along-start found hold wait js take release =
+      stays Start true false false found 0 _ (λ i x y. is-below _ _ _ _ _ (omega arith))
       ∙ at-tick Start _ (omega arith)
-      ∙ enters Start FirstHold true false true h f _ b refl (λ i x y. refl)
-      ∙ enters FirstHold (ReadyToSend false false) false false true w (f + h) js c refl (λ i x y. refl)
+      ∙ enters Start FirstHold true false true hold found _ (release .release) refl (λ i x y. refl)
+      ∙ enters FirstHold (ReadyToSend false false) false false true wait (found + hold) js (release .let-go) refl (λ i x y. refl)
 
   -- A set-up's further ticks.
   along-set-up : (m : Bool) (left v s now : ℕ) (d : Bool) (ds : List Bool) (js : List Pulls) → now + length ds ≤ s + L .«set_up_most»
@@ -263,19 +264,17 @@ module _ (L : Limits) where
         enters (ReadyToSend any false) (ReadyForData any now) false false false gap now _ a refl (λ i x y. is-below _ _ _ _ _
         (omega arith))
 
-    along-mark : (any : Bool) (gap ack resp now : ℕ) (js : List Pulls) → L .«end_mark» ≤ gap → gap ≤ L .«end_mark_latest»
-        → L .«acknowledge_least» ≤ ack → ack ≤ L .«acknowledge_most» → 1 ≤ resp → resp ≤ L .response
+    along-mark : (any : Bool) (gap ack resp now : ℕ) (js : List Pulls) → EndMarkRule L gap ack resp
         → run L now (ReadyToSend any false) (map shows (replicate gap nobody ++ (replicate ack held ++ (replicate resp nobody ++ js))))
         ≡ run L (now + gap + ack + resp) (Acknowledged any now (now + gap + ack)) (map shows js)
     unfolding next
-    along-mark any gap ack resp now js a b c d e f =
-        along-gap any gap now _ (omega (arith, times .end-mark)) b
-        ∙ enters (ReadyForData any now) (Acknowledgement any now (now + gap)) false false true ack (now + gap) _ (omega
-        (arith, times .acknowledge))
-        (not-below _ _ _ _ _ (omega arith)) (λ i x y. is-below _ _ _ _ _ (omega arith))
+    along-mark any gap ack resp now js rule =
+        along-gap any gap now _ (omega (arith, times .end-mark)) (rule .gap-most)
+        ∙ enters (ReadyForData any now) (Acknowledgement any now (now + gap)) false false true ack (now + gap) _
+        (omega (arith, times .acknowledge)) (not-below _ _ _ _ _ (omega arith)) (λ i x y. is-below _ _ _ _ _ (omega arith))
         ∙ enters (Acknowledgement any now (now + gap)) (Acknowledged any now (now + gap + ack)) false false false resp
-        (now + gap + ack) _ e
-        (not-below _ _ _ _ _ (omega arith)) (λ i x y. is-below _ _ _ _ _ (omega (arith, times .timeout)))
+        (now + gap + ack) _ (rule .response-least) (not-below _ _ _ _ _ (omega arith))
+        (λ i x y. is-below _ _ _ _ _ (omega (arith, times .timeout)))
 
     -- Bits, from the tick after the first set-up tick to the CLK pull after the last of them, which shows DATA d.
     along-bits : (m : Bool) (v now : ℕ) (x : Bit) (xs : List Bit) (d : Bool) (js : List Pulls) → BitRule L x → BitRules L xs
@@ -366,21 +365,16 @@ module _ (L : Limits) where
         (then-hands (along-gap any gap now _ (r .plain .least) (omega (arith, r .plain .most, times .end-mark-in-time)))
         (along-frame false (ReadyForData any now) (now + gap) f _ (λ d. is-below _ _ _ _ _ (omega (arith, r .plain .most))) (r .frame)))
         (along-sending true _ rest (rules .1))
-    along-sending any now (last gap ack resp f silence) r =
+    along-sending any now (last gap ack resp f silence) rules =
         complete-on
-        (then-hands
-        (along-mark any gap ack resp now _ (r .end-mark .gap-least) (r .end-mark .gap-most) (r .end-mark .acknowledgement-least)
-        (r .end-mark .acknowledgement-most)
-        (r .end-mark .response-least)
-        (r .end-mark .response-most))
+        (then-hands (along-mark any gap ack resp now _ (rules .end-mark))
         (along-frame true (Acknowledged any now (now + gap + ack)) (now + gap + ack + resp) f _
-        (λ d. is-upTo _ _ _ _ _ (omega (arith, r .end-mark .response-most))) (r .frame)))
-        (subst⁻¹ (λ o. CompleteBy o []) (along-end silence _ (r .silent .some)) (record { verdict = refl; ledger = tt }))
+        (λ d. is-upTo _ _ _ _ _ (omega (arith, rules .end-mark .response-most))) (rules .frame)))
+        (subst⁻¹ (λ o. CompleteBy o []) (along-end silence _ (rules .silent .some)) (record { verdict = refl; ledger = tt }))
 
     -- A plan that keeps the rules is read as complete, with the plan's bytes and each tick the plan's or an earlier one.
     pub along : (p : Plan) → PlanRules L p → CompleteBy (run L 0 Start (map shows (track p))) (planBytes p)
     along p rules =
-        subst⁻¹ (λ o. CompleteBy o (planBytes p)) (along-start (p .found) (p .hold) (p .wait) _ (rules .first-take .in-time)
-        (rules .first-release .release)
-        (rules .first-release .let-go))
+        subst⁻¹ (λ o. CompleteBy o (planBytes p))
+        (along-start (p .found) (p .hold) (p .wait) _ (rules .first-take) (rules .first-release))
         (along-sending false _ (p .sending) (rules .sending))

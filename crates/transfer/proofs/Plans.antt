@@ -1,5 +1,5 @@
 -- The shapes of specs' tracks as plans: what follows a letting go is what a plan that keeps the rules sends. Assumes nothing.
-use Prim.Native.Nat.{ℕ, zero, suc, _+_, _≤_, _<_}
+use Prim.Native.Nat.{ℕ, zero, suc, _+_, _≤_}
 use native.Mathlib.Omega.{arith}
 use mathlib.Core.Path.{_≡_, refl, sym, ap, ap₂, _∙_, subst, subst⁻¹, subst₂}
 use mathlib.Core.Logic.{inl, inr}
@@ -10,7 +10,7 @@ use Rattle.transfer.specs.Phases.{withBit}
 use Rattle.transfer.specs.Parties.{Pulls, nobody, held, clock, clockHeld, sets, offers, Bit, lastOf}
 use Rattle.transfer.specs.Parties.{Frame, more, last, bitsTrack, frameTrack, bitsTicks}
 use Rattle.transfer.specs.Parties.{byteOf, afterFrame, sendingBytes}
-use Rattle.transfer.specs.Rules.{BitRules, FrameRules}
+use Rattle.transfer.specs.Rules.{ReleaseRule, PlainRule, EndMarkRule, BitRules, HandoverRule, FrameRules}
 use Rattle.transfer.specs.Demand3.{Consistent}
 use Rattle.transfer.specs.declared.limits.Limits.{Limits}
 use Rattle.transfer.specs.declared.phase.Byte.{Byte}
@@ -45,25 +45,24 @@ module _ (L : Limits) where
     wait : ℕ
     rest : List Pulls
     others : List Byte
-    let-go-most : let-go ≤ L .«keep_most»
-    let-go-zero : bit8 ≡ false → let-go ≡ 0
+    handover : HandoverRule L bit8 let-go take
+    releases : ReleaseRule L take release wait
     tidy : let-go ≤ take
-    take-least : 1 ≤ take
-    take-most : take ≤ L .«take_latest»
-    releases : take + L .«between_bytes» ≤ release
-    waits : 1 ≤ wait
     is : js ≡ handoverTicks release let-go take ++ (replicate wait held ++ rest)
     bytes : l ≡ record { value = value; «let_go» = e + let-go; take = e + take } ∷ others
     after : AfterC L mark (e + release + wait) rest others
 
+  -- From tick `now` on the receiver holds DATA, until CLK is released, `earliest` or later, and hands the byte over.
+  abbrev Holding : (mark : Bool) (value : ℕ) (l : List Byte) (let-go take now earliest : ℕ) → List Pulls → Type 0
+  Holding mark value l let-go take now earliest js =
+      Stays clockHeld (HandsOver L (record { value = value; «let_go» = let-go; take = take }) mark earliest) now js l
+
   -- What stands before the take, a ticks with DATA pulled by the sender and t ticks open; then the receiver's hold.
   handover-of : (mark bit8 : Bool) (value e a t take let-go : ℕ) (js js′ : List Pulls) (l : List Byte)
-      → js ≡ replicate a clockKept ++ (replicate t clock ++ js′) → e + a ≡ let-go → a + t ≡ take → 1 ≤ take → take ≤ L .«take_latest»
-      → a ≤ L .«keep_most» → (bit8 ≡ false → a ≡ 0)
-      → Stays clockHeld (HandsOver L (record { value = value; «let_go» = let-go; take = e + take }) mark
-      (e + take + L .«between_bytes»)) (e + take) js′ l
+      → js ≡ replicate a clockKept ++ (replicate t clock ++ js′) → e + a ≡ let-go → a + t ≡ take → HandoverRule L bit8 a take
+      → Holding mark value l let-go (e + take) (e + take) (e + take + L .«between_bytes») js′
       → HandoverPlan mark bit8 value e js l
-  handover-of mark bit8 value e a t take let-go js js′ l split at sum some most keep zero-bit h =
+  handover-of mark bit8 value e a t take let-go js js′ l split at sum rule h =
       let w = many (h .after .after) in
       record {
         let-go = a;
@@ -72,13 +71,9 @@ module _ (L : Limits) where
         wait = w .count;
         rest = w .rest;
         others = h .after .others;
-        let-go-most = keep;
-        let-go-zero = zero-bit;
+        handover = rule;
+        releases = record { after-take = omega (arith, h .after .late, h .ends); let-go = w .some };
         tidy = omega arith;
-        take-least = some;
-        take-most = most;
-        releases = omega (arith, h .after .late, h .ends);
-        waits = w .some;
         is =
             split
             ∙ ap (λ x. replicate a clockKept ++ (replicate t clock ++ x))
@@ -95,12 +90,14 @@ module _ (L : Limits) where
         → HandoverPlan mark bit8 value e js l
     handover-plan mark bit8 value e js l (opens f) =
         let c = many f in
-        handover-of mark bit8 value e 0 (c .count) (c .count) e js (c .rest) l (c .splits) (omega arith) (omega arith) (c .some)
-        (omega (arith, c .ends, c .after .0)) (omega arith) (λ z. refl)
-        (subst⁻¹
-        (λ (x : ℕ). Stays clockHeld (HandsOver L (record { value = value; «let_go» = e; take = x }) mark
-        (x + L .«between_bytes»)) x (c .rest) l)
-        (c .ends) (joined (c .after .1)))
+        handover-of mark bit8 value e 0 (c .count) (c .count) e js (c .rest) l (c .splits) (omega arith) (omega arith)
+        (record {
+          keeps = omega arith;
+          zero-keeps-not = λ z. refl;
+          take-least = c .some;
+          take-most = omega (arith, c .ends, c .after .0);
+        })
+        (subst⁻¹ (λ (x : ℕ). Holding mark value l e x x (x + L .«between_bytes») (c .rest)) (c .ends) (joined (c .after .1)))
     handover-plan mark bit8 value e js l (carries b f) = at (f .after)
       where
         no-zero : (n : ℕ) → bit8 ≡ false → n ≡ 0
@@ -111,18 +108,25 @@ module _ (L : Limits) where
             let a = many {js = js} (record { rest = f .rest; splits = f .splits; after = h }) in
             let c = many (a .after .1) in
             handover-of mark bit8 value e (a .count) (c .count) (a .count + c .count) (a .till) js (c .rest) l
-            (a .splits ∙ ap (λ x. replicate (a .count) clockKept ++ x) (c .splits)) (a .ends) refl (omega (arith, c .some))
-            (omega (arith, c .ends, a .ends, c .after .0)) (omega (arith, a .ends, a .after .0)) (no-zero (a .count))
-            (subst⁻¹
-            (λ (x : ℕ). Stays clockHeld (HandsOver L (record { value = value; «let_go» = a .till; take = x }) mark
-            (x + L .«between_bytes»)) x (c .rest) l)
-            (omega (arith, c .ends, a .ends)) (joined (c .after .1)))
+            (a .splits ∙ ap (λ x. replicate (a .count) clockKept ++ x) (c .splits)) (a .ends) refl
+            (record {
+              keeps = omega (arith, a .ends, a .after .0);
+              zero-keeps-not = no-zero (a .count);
+              take-least = omega (arith, c .some);
+              take-most = omega (arith, c .ends, a .ends, c .after .0);
+            })
+            (subst⁻¹ (λ (x : ℕ). Holding mark value l (a .till) x x (x + L .«between_bytes») (c .rest)) (omega
+            (arith, c .ends, a .ends))
+            (joined (c .after .1)))
         at (inr h) =
-            handover-of mark bit8 value e 1 0 1 (e + 1) js (f .rest) l (f .splits) refl refl (omega arith)
-            (omega (arith, times .keep-take)) (times .keep) (no-zero 1)
-            (subst₂ (λ (x y : ℕ). Stays clockHeld (HandsOver L
-            (record { value = value; «let_go» = e + 1; take = e + 1 }) mark y) x (f .rest) l)
-            (omega arith) (omega arith) h)
+            handover-of mark bit8 value e 1 0 1 (e + 1) js (f .rest) l (f .splits) refl refl
+            (record {
+              keeps = times .keep;
+              zero-keeps-not = no-zero 1;
+              take-least = omega arith;
+              take-most = omega (arith, times .keep-take);
+            })
+            (subst₂ (λ (x y : ℕ). Holding mark value l (e + 1) (e + 1) x y (f .rest)) (omega arith) (omega arith) h)
 
     -- Bits, and the handover after them.
     record BitsPlan (mark b : Bool) (left value e : ℕ) (js : List Pulls) (l : List Byte) : Type 0 where
@@ -197,14 +201,8 @@ module _ (L : Limits) where
           rules =
               record {
                 bits = record { eight = x .number; each = x .rules };
-                handover =
-                    record {
-                      keeps = h .let-go-most;
-                      zero-keeps-not = h .let-go-zero;
-                      take-least = h .take-least;
-                      take-most = h .take-most;
-                    };
-                release = record { after-take = h .releases; let-go = h .waits };
+                handover = h .handover;
+                release = h .releases;
               };
           tidy = h .tidy;
           rest = h .rest;
@@ -220,13 +218,13 @@ module _ (L : Limits) where
     frame-plan : (mark : Bool) (e : ℕ) (js : List Pulls) (l : List Byte) → Bits L mark 8 0 false e js l → FramePlan mark e js l
     frame-plan mark e js l h = frame-of mark e js l (bits-plan mark false 8 0 e js l h)
 
-    sends-more : (now gap e : ℕ) (js js′ : List Pulls) (l : List Byte) → 1 ≤ gap → now + gap ≡ e → e < now + L .«end_mark»
+    sends-more : (now gap e : ℕ) (js js′ : List Pulls) (l : List Byte) → PlainRule L gap → now + gap ≡ e
         → js ≡ replicate gap nobody ++ js′ → FramePlan false e js′ l → Sends L now js l
-    sends-more now gap e js js′ l some ends most split f =
+    sends-more now gap e js js′ l rule ends split f =
         let s = f .after in
         record {
           plan = more gap (f .frame) (s .plan);
-          rules = (record { plain = record { least = some; most = omega arith }; frame = f .rules }, s .rules);
+          rules = (record { plain = rule; frame = f .rules }, s .rules);
           tidy = (f .tidy, s .tidy);
           is = split ∙ ap (λ x. replicate gap nobody ++ x) (f .is ∙ ap (frameTrack (f .frame)) (s .is));
           bytes =
@@ -235,27 +233,13 @@ module _ (L : Limits) where
               ∙ ap (λ (x : ℕ). byteOf x (f .frame) ∷ sendingBytes (afterFrame x (f .frame)) (s .plan)) (sym ends);
         }
 
-    sends-last : (now gap ack resp e : ℕ) (js js′ : List Pulls) (l : List Byte) → L .«end_mark» ≤ gap → gap ≤ L .«end_mark_latest»
-        → L .«acknowledge_least» ≤ ack → ack ≤ L .«acknowledge_most» → 1 ≤ resp → resp ≤ L .response → now + gap + ack + resp ≡ e
+    sends-last : (now gap ack resp e : ℕ) (js js′ : List Pulls) (l : List Byte) → EndMarkRule L gap ack resp → now + gap + ack + resp ≡ e
         → js ≡ replicate gap nobody ++ (replicate ack held ++ (replicate resp nobody ++ js′)) → FramePlan true e js′ l → Sends L now js l
-    sends-last now gap ack resp e js js′ l a b c d g h ends split f =
+    sends-last now gap ack resp e js js′ l rule ends split f =
         let s = f .after in
         record {
           plan = last gap ack resp (f .frame) (suc (s .after .count));
-          rules =
-              record {
-                end-mark =
-                    record {
-                      gap-least = a;
-                      gap-most = b;
-                      acknowledgement-least = c;
-                      acknowledgement-most = d;
-                      response-least = g;
-                      response-most = h;
-                    };
-                frame = f .rules;
-                silent = record { some = omega arith };
-              };
+          rules = record { end-mark = rule; frame = f .rules; silent = record { some = omega arith } };
           tidy = f .tidy;
           is =
               split
@@ -269,14 +253,21 @@ module _ (L : Limits) where
     sends now js l f = let g = many f in at g (g .after)
       where
         at : (g : Many nobody (AfterD L now) now js l) → AfterD L now (g .till) (g .rest) l → Sends L now js l
-        at g (inl h) = sends-more now (g .count) (g .till) js (g .rest) l (g .some) (g .ends) (h .0) (g .splits)
-            (frame-plan false (g .till) (g .rest) l (h .1))
+        at g (inl h) =
+            sends-more now (g .count) (g .till) js (g .rest) l (record { least = g .some; most = omega (arith, g .ends, h .0) })
+            (g .ends) (g .splits) (frame-plan false (g .till) (g .rest) l (h .1))
         at g (inr h) =
             let a = many (h .2) in
             let r = many (a .after .2) in
-            sends-last now (g .count) (a .count) (r .count) (r .till) js (r .rest) l (omega (arith, g .ends, h .0)) (omega
-            (arith, g .ends, h .1))
-            (omega (arith, a .ends, a .after .0)) (omega (arith, a .ends, a .after .1)) (r .some) (omega (arith, r .ends, r .after .0))
+            sends-last now (g .count) (a .count) (r .count) (r .till) js (r .rest) l
+            (record {
+              gap-least = omega (arith, g .ends, h .0);
+              gap-most = omega (arith, g .ends, h .1);
+              acknowledgement-least = omega (arith, a .ends, a .after .0);
+              acknowledgement-most = omega (arith, a .ends, a .after .1);
+              response-least = r .some;
+              response-most = omega (arith, r .ends, r .after .0);
+            })
             (omega (arith, g .ends, a .ends, r .ends))
             (g .splits ∙ ap (λ x. replicate (g .count) nobody ++ x) (a .splits ∙ ap (λ x. replicate (a .count) held ++ x) (r .splits)))
             (frame-plan true (r .till) (r .rest) l (r .after .1))
