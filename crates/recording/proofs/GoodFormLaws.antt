@@ -11,7 +11,7 @@ use Rattle.recording.specs.Choice.{differs}
 use Rattle.recording.specs.Layout.{headerAt, stepAt, headerSize, mostSteps, longestDuration, stepPlace, fileLength}
 use Rattle.recording.specs.Ticks.{stepsFrom, stepsOf, totalTicks, ticksOf}
 use Rattle.recording.specs.Form.{headerTest, stepTest, stepsForm, bodyForm, formOf}
-use Rattle.recording.specs.GoodForm.{Bytes, GoodStep, GoodForm, GoodFormLaw}
+use Rattle.recording.specs.GoodForm.{Bytes, GoodStep, GoodForm, GoodFormLaw, FewTicksLaw}
 use Rattle.recording.specs.declared.form.Form.{Form}
 use Rattle.recording.specs.declared.form.Form.the-variants.{Good}
 use Rattle.recording.proofs.Tests.{good-else, good-after, same}
@@ -94,7 +94,7 @@ total-fits file bytes (suc k) i =
     let later = total-fits file bytes k (suc i) in
     omega arith
 
-pub few-ticks : (file : List ℕ) (n : ℕ) → Bytes file → GoodForm file n → length (ticksOf file) ≤ mostSteps * longestDuration
+pub few-ticks : FewTicksLaw
 unfolding ticksOf stepsOf
 few-ticks file n bytes good =
     let sum = total-fits file bytes (headerAt file .steps) 0 in

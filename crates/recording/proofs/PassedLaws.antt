@@ -54,10 +54,10 @@ step-passed s e =
     let lines = passed-on (leb lineBound (s .lines)) _ _ (duration .1) in
     let last = passed-on (differs (s .last) 0) _ _ (lines .1) in
     let some : s .duration ≡ 0 → ⊥ = eqb-false _ _ (duration .0) in
-    record { lasts = omega arith; fourBits = leb-false _ _ (lines .0); lastZero = same _ _ (last .0) }
+    record { lasts = omega arith; four-bits = leb-false _ _ (lines .0); last-zero = same _ _ (last .0) }
 
 pub good-step-passes : (s : Step) → GoodStep s → stepTest s ≡ Passed
 unfolding stepTest
 good-step-passes s good =
     let some : s .duration ≡ 0 → ⊥ = λ z. omega (arith, good .lasts, z) in
-    rw (ne-eqb (s .duration) 0 some, lt-leb lineBound (s .lines) (good .fourBits), eq-eqb (s .last) 0 (good .lastZero))
+    rw (ne-eqb (s .duration) 0 some, lt-leb lineBound (s .lines) (good .four-bits), eq-eqb (s .last) 0 (good .last-zero))

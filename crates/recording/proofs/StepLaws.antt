@@ -7,7 +7,7 @@ use native.Mathlib.Numerals.{add-one}
 use native.Mathlib.Omega.{arith}
 use lib.ListN.{length, replicate, length-append, length-replicate}
 use Rattle.recording.specs.Layout.{headerAt, stepAt}
-use Rattle.recording.specs.Ticks.{stepsFrom, stepsOf, totalTicks, ticks, ticksOf}
+use Rattle.recording.specs.Ticks.{stepsFrom, stepsOf, totalTicks, stepTicks, ticks, ticksOf}
 use Rattle.recording.specs.declared.step.Step.{Step}
 
 one-less : (i n : ℕ) → i < n → n - i ≡ suc (n - (i + 1))
@@ -30,7 +30,7 @@ unfolding ticksOf stepsOf
 ticks-all file n e = rw (sub-zero, e)
 
 pub ticks-begin : (file : List ℕ) (i n : ℕ) (s : Step) → s ≡ stepAt file i → i < n
-    → ticks (stepsFrom file i (n - i)) ≡ replicate (s .duration) (s .lines) ++ ticks (stepsFrom file (i + 1) (n - (i + 1)))
+    → ticks (stepsFrom file i (n - i)) ≡ stepTicks s ++ ticks (stepsFrom file (i + 1) (n - (i + 1)))
 unfolding ticks
 ticks-begin file i n s e h = ap ticks (steps-begin file i n s e h)
 

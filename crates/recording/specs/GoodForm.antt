@@ -1,24 +1,21 @@
 -- What holds of a recording of good form.
-use Prim.Native.Nat.{ℕ, _<_, _≤_}
+use Prim.Native.Nat.{ℕ, _*_, _<_, _≤_}
 use mathlib.Core.List.{List}
 use mathlib.Core.Logic.{_↔_}
 use mathlib.Core.Path.{_≡_}
 use lib.ListN.{length}
 use Rattle.recording.specs.Form.{formOf}
-use Rattle.recording.specs.Layout.{byteAt, headerAt, stepAt, headerSize, goodVersion, mostSteps, lineBound, fileLength}
+use Rattle.recording.specs.Layout.{byteAt, headerAt, stepAt, headerSize, goodVersion, mostSteps}
+use Rattle.recording.specs.Layout.{longestDuration, lineBound, fileLength}
 use Rattle.recording.specs.Ticks.{ticksOf}
 use Rattle.recording.specs.declared.form.Form.the-variants.{Good}
 use Rattle.recording.specs.declared.step.Step.{Step}
 
--- A list that stands for bytes, as the contents of a lent file do.
-abbrev pub Bytes : List ℕ → Type 0
-Bytes file = (at : ℕ) → byteAt file at < 256
-
 -- No refusal 6 or 7.
 pub record GoodStep (s : Step) : Type 0 where
   pub lasts : 1 ≤ s .duration
-  pub fourBits : s .lines < lineBound
-  pub lastZero : s .last ≡ 0
+  pub four-bits : s .lines < lineBound
+  pub last-zero : s .last ≡ 0
 
 -- Document 01's "of good form", as far as the refusals 1 to 8 go, in plain words: the header's fields are right, n is the step count,
 -- the file is the header and n steps, each good, and the total is the number of ticks.
@@ -35,3 +32,11 @@ pub record GoodForm (file : List ℕ) (n : ℕ) : Type 0 where
 -- A recording is not refused, and has n steps, exactly if it is of good form with n steps.
 abbrev pub GoodFormLaw : Type 0
 GoodFormLaw = (file : List ℕ) (n : ℕ) → (formOf file ≡ Good n) ↔ GoodForm file n
+
+-- A list that stands for bytes, as the contents of a lent file do.
+abbrev pub Bytes : List ℕ → Type 0
+Bytes file = (at : ℕ) → byteAt file at < 256
+
+-- Then it has few ticks, so that a tick fits 32 bits.
+abbrev pub FewTicksLaw : Type 0
+FewTicksLaw = (file : List ℕ) (n : ℕ) → Bytes file → GoodForm file n → length (ticksOf file) ≤ mostSteps * longestDuration

@@ -19,10 +19,14 @@ unfoldable pub totalTicks : List Step → ℕ
 totalTicks [] = 0
 totalTicks (s ∷ steps) = s .duration + totalTicks steps
 
+-- The line byte at each tick of a step.
+abbrev pub stepTicks : Step → List ℕ
+stepTicks s = replicate (s .duration) (s .lines)
+
 -- The line byte at each tick. "Neighbouring steps may show the same lines; the meaning is the list of ticks."
 unfoldable pub ticks : List Step → List ℕ
 ticks [] = []
-ticks (s ∷ steps) = replicate (s .duration) (s .lines) ++ ticks steps
+ticks (s ∷ steps) = stepTicks s ++ ticks steps
 
 -- The ticks that a recording means.
 unfoldable pub ticksOf : List ℕ → List ℕ
