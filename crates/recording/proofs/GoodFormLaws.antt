@@ -8,7 +8,7 @@ use lib.Dec.{ltb}
 use borrow.Author.Tests.{le-ltb, eq-eqb}
 use lib.ListN.{length}
 use Rattle.recording.specs.Choice.{differs}
-use Rattle.recording.specs.Layout.{headerAt, stepAt, headerSize, mostSteps, longestDuration, stepPlace, fileLength}
+use Rattle.recording.specs.Layout.{headerAt, stepAt, headerSize, longestDuration, stepPlace, fileLength}
 use Rattle.recording.specs.Ticks.{stepsFrom, stepsOf, totalTicks, ticksOf}
 use Rattle.recording.specs.Form.{headerTest, stepTest, stepsForm, bodyForm, formOf}
 use Rattle.recording.specs.GoodForm.{Bytes, GoodStep, GoodForm, GoodFormLaw, FewTicksLaw}

@@ -5,7 +5,7 @@ use mathlib.Core.Path.{_≡_, refl, ap}
 use native.Mathlib.Nat.{sub-zero}
 use native.Mathlib.Numerals.{add-one}
 use native.Mathlib.Omega.{arith}
-use lib.ListN.{length, replicate, length-append, length-replicate}
+use lib.ListN.{length, length-append, length-replicate}
 use Rattle.recording.specs.Layout.{headerAt, stepAt}
 use Rattle.recording.specs.Ticks.{stepsFrom, stepsOf, totalTicks, stepTicks, ticks, ticksOf}
 use Rattle.recording.specs.declared.step.Step.{Step}

@@ -225,12 +225,12 @@ module _ (L : Limits) where
         if-below _ _ _ _ _ _ _
         (λ a.
         goes (sets d) (ReadyForData any s) (SetUp false 7 0 now d) now w _ (λ js l h. leaves (inl (a, (d, one h))))
-        (ih (suc now) (SetUp false 7 0 now d) (omega (arith, times .set-up))))
+        (ih (suc now) (SetUp false 7 0 now d) (omega (arith, times .set-up-some))))
     row-ready-for-data any s false true now w ih i =
         unless-below _ _ _ _ _ _ _
         (λ a.
         goes held (ReadyForData any s) (Acknowledgement any s now) now w _ (λ js l h. leaves (inr (a, i, one h)))
-        (ih (suc now) (Acknowledgement any s now) (omega (arith, times .acknowledge, times .acknowledges))))
+        (ih (suc now) (Acknowledgement any s now) (omega (arith, times .acknowledge-some, times .acknowledge-room))))
     row-ready-for-data any s false false now w ih i =
         if-below _ _ _ _ _ _ _
         (λ a. goes nobody (ReadyForData any s) (ReadyForData any s) now w _ (λ js l h. stay h) (ih (suc now)
@@ -243,7 +243,7 @@ module _ (L : Limits) where
         if-upTo _ _ _ _ _ _ _
         (λ a.
         goes (sets d) (Acknowledged any ready s) (SetUp true 7 0 now d) now w _ (λ js l h. leaves (a, (d, one h)))
-        (ih (suc now) (SetUp true 7 0 now d) (omega (arith, times .set-up))))
+        (ih (suc now) (SetUp true 7 0 now d) (omega (arith, times .set-up-some))))
     row-acknowledged false ready s false false now w ih i =
         if-below _ _ _ _ _ _ _
         (λ a. goes nobody (Acknowledged false ready s) (Acknowledged false ready s) now w _ (λ js l h. stay h) (ih (suc now)
@@ -259,7 +259,7 @@ module _ (L : Limits) where
     to-valid m left v s b now w ih i =
         goes (offers b) (SetUp m left v s b) (Valid m left v now b) now w _
         (λ js l h. record { pulled = []; till = now; rest = offers b ∷ js; ends = omega arith; fits = i; splits = refl; after = one h })
-        (ih (suc now) (Valid m left v now b) (omega (arith, times .valid, times .valids)))
+        (ih (suc now) (Valid m left v now b) (omega (arith, times .valid-some, times .valid-room)))
 
     row-set-up : (m : Bool) (left v s : ℕ) (b c d : Bool) → Row (SetUp m left v s b) c d
     unfolding next same
@@ -302,7 +302,7 @@ module _ (L : Limits) where
         unless-below _ _ _ _ _ _ _
         (λ a.
         goes (sets d) (Valid m (suc left) v s b) (SetUp m left (withBit v b) now d) now w _ (λ js l h. leaves (a, i, (d, one h)))
-        (ih (suc now) (SetUp m left (withBit v b) now d) (omega (arith, times .set-up))))
+        (ih (suc now) (SetUp m left (withBit v b) now d) (omega (arith, times .set-up-some))))
     row-valid m zero v s b true false now w ih i =
         unless-below _ _ _ _ _ _ _
         (λ a.

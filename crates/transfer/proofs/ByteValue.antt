@@ -7,16 +7,17 @@ use mathlib.Core.List.{List, [], _∷_, map}
 use lib.ListN.{length}
 use Rattle.transfer.specs.Choice.{if_then_else_}
 use Rattle.transfer.specs.Phases.{withBit}
-use Rattle.transfer.specs.Parties.{Bit, bit, lastOf, valueOf}
+use Rattle.transfer.specs.Parties.{Bit, valueOf}
+use Rattle.transfer.specs.Rules.{lastOf}
 
 -- The judge's way: bits taken in after `value`.
 abbrev pub takenIn : (value : ℕ) → List Bit → ℕ
 takenIn value [] = value
-takenIn value (x ∷ xs) = takenIn (withBit value (bit x)) xs
+takenIn value (x ∷ xs) = takenIn (withBit value (x .bit)) xs
 
 -- The last of the bits, after a bit b.
 abbrev pub lastBit : Bool → List Bit → Bool
-lastBit b xs = lastOf b (map bit xs)
+lastBit b xs = lastOf b (map (λ (x : Bit). x .bit) xs)
 
 -- A bit as a number.
 abbrev one : Bool → ℕ
@@ -60,7 +61,7 @@ octet a b c d e f g h =
     (omega (arith, one-most a, one-most b, one-most c, one-most d, one-most e, one-most f, one-most g, one-most h))
 
 pub eight-bits : (xs : List Bit) → length xs ≡ 8 → takenIn 0 xs ≡ valueOf 1 xs
-eight-bits (a ∷ b ∷ c ∷ d ∷ e ∷ f ∷ g ∷ h ∷ []) k = octet (bit a) (bit b) (bit c) (bit d) (bit e) (bit f) (bit g) (bit h)
+eight-bits (a ∷ b ∷ c ∷ d ∷ e ∷ f ∷ g ∷ h ∷ []) k = octet (a .bit) (b .bit) (c .bit) (d .bit) (e .bit) (f .bit) (g .bit) (h .bit)
 eight-bits [] k = absurd (omega arith)
 eight-bits (a ∷ []) k = absurd (omega arith)
 eight-bits (a ∷ b ∷ []) k = absurd (omega arith)

@@ -33,17 +33,17 @@ same-values (a ∷ ledger) [] h = absurd h
 same-values (a ∷ ledger) (b ∷ other) h = ap₂ (λ (v : ℕ) l. v ∷ l) (h .0) (same-values ledger other (h .3))
 
 module _ (L : Limits) (times : Consistent L) (w : List Lines) where
-  -- A pair that gives the ticks: they are complete with its bytes, and no tick of the ledger is later than the pair's.
-  reads : (string : List ℕ) (sender : List SenderPulls) (receiver : List Bool) (ticks : List Byte)
-      → Explains L w string sender receiver ticks
-      → CompleteBy (outcome L w) ticks
-  reads string sender receiver ticks x =
+  -- A pair that gives the dated: they are complete with its bytes, and no tick of the ledger is later than the pair's.
+  reads : (string : List ℕ) (sender : List SenderPulls) (receiver : List Bool) (dated : List Byte)
+      → Explains L w string sender receiver dated
+      → CompleteBy (outcome L w) dated
+  reads string sender receiver dated x =
       let p = x .pair in
       let given : map shows (track (p .plan)) ≡ w =
       sym (gives-shows (track (p .plan))) ∙ sym (ap₂ gives (p .sends) (p .receives)) ∙ x .gives-it in
-      let bytes = subst⁻¹ (λ l. CompleteBy (run L 0 Start (map shows (track (p .plan)))) l) (p .ticks-are) (along L times
+      let bytes = subst⁻¹ (λ l. CompleteBy (run L 0 Start (map shows (track (p .plan)))) l) (p .dated-so) (along L times
       (p .plan) (p .rules)) in
-      subst⁻¹ (λ o. CompleteBy o ticks) (outcome-is L w) (subst (λ v. CompleteBy (run L 0 Start v) ticks) given bytes)
+      subst⁻¹ (λ o. CompleteBy o dated) (outcome-is L w) (subst (λ v. CompleteBy (run L 0 Start v) dated) given bytes)
 
   -- A complete tick list is what a plan gives.
   planned : outcome L w .decision .verdict ≡ Complete → Planned L times w (outcome L w .bytes)
@@ -65,22 +65,22 @@ module _ (L : Limits) (times : Consistent L) (w : List Lines) where
               sends = ap (map senderPulls) e;
               receives = ap (map receiverPulls) e;
               string-is = sym (c .bytes) ∙ ap values (p .bytes);
-              ticks-are = p .bytes;
+              dated-so = p .bytes;
             };
         gives-it = gives-shows (shown (outcome L w .bytes) w) ∙ ap (map shows) e ∙ sym (p .gives);
       }
 
   explained : (string : List ℕ) → CompleteWith L w string → Explained L w string
   explained string c =
-      record { sender = shownSender L w; receiver = shownReceiver L w; ticks = outcome L w .bytes; explains = shows-pair string c }
+      record { sender = shownSender L w; receiver = shownReceiver L w; dated = outcome L w .bytes; explains = shows-pair string c }
 
   complete : (string : List ℕ) → Explained L w string → CompleteWith L w string
   complete string x =
-      let r = reads string (x .sender) (x .receiver) (x .ticks) (x .explains) in
+      let r = reads string (x .sender) (x .receiver) (x .dated) (x .explains) in
       let p = x .explains .pair in
       record {
         verdict = r .verdict;
-        bytes = same-values (outcome L w .bytes) (x .ticks) (r .ledger) ∙ ap values (p .ticks-are)
+        bytes = same-values (outcome L w .bytes) (x .dated) (r .ledger) ∙ ap values (p .dated-so)
             ∙ sym (p .string-is);
       }
 
@@ -89,7 +89,7 @@ module _ (L : Limits) (times : Consistent L) (w : List Lines) where
       record {
         exactly = λ string. (explained string, complete string);
         shown-pair = shows-pair;
-        earliest = λ string sender receiver ticks x. reads string sender receiver ticks x .ledger;
+        earliest = λ string sender receiver dated x. reads string sender receiver dated x .ledger;
         never = λ none e. none (values (outcome L w .bytes)) (explained _ (record { verdict = e; bytes = refl }));
       }
 
@@ -102,13 +102,13 @@ standard-consistent =
       end-mark = omega arith;
       end-mark-in-time = omega arith;
       ready-for-data = omega arith;
-      acknowledge = omega arith;
-      acknowledges = omega arith;
+      acknowledge-some = omega arith;
+      acknowledge-room = omega arith;
       timeout = omega arith;
-      set-up = omega arith;
-      valid = omega arith;
-      valids = omega arith;
-      keep = omega arith;
+      set-up-some = omega arith;
+      valid-some = omega arith;
+      valid-room = omega arith;
+      keep-some = omega arith;
       keep-take = omega arith;
       keep-release = omega arith;
     }

@@ -10,10 +10,10 @@ use Rattle.transfer.specs.Choice.{if_then_else_}
 use Rattle.transfer.specs.Offsets.{below, upTo}
 use Rattle.transfer.specs.Phases.{Move, Go, Hand, next, same, withBit, handover, afterBit}
 use Rattle.transfer.specs.Outcome.{Outcome}
-use Rattle.transfer.specs.Parties.{Pulls, pulls, nobody, held, clock, clockHeld, sets, offers, Bit, bit, lastOf, Frame}
+use Rattle.transfer.specs.Parties.{Pulls, pulls, nobody, held, clock, clockHeld, sets, offers, Bit, Frame}
 use Rattle.transfer.specs.Parties.{Sending, more, last, Plan, bitsTrack, frameTrack, sendingTrack, track}
 use Rattle.transfer.specs.Parties.{bitsTicks, byteOf, afterFrame, sendingBytes, planBytes}
-use Rattle.transfer.specs.Rules.{FirstTakeRule, FirstReleaseRule, EndMarkRule, BitRule, BitRules, FrameRules}
+use Rattle.transfer.specs.Rules.{lastOf, FirstTakeRule, FirstReleaseRule, EndMarkRule, BitRule, BitRules, FrameRules}
 use Rattle.transfer.specs.Rules.{SendingRules, PlanRules}
 use Rattle.transfer.specs.Pair.{SameOrLater}
 use Rattle.transfer.specs.Demand3.{Consistent}
@@ -128,14 +128,16 @@ module _ (L : Limits) where
 
   -- One bit, from the tick after its first set-up tick `s` to its last valid tick.
   along-bit : (m : Bool) (left v s : ℕ) (x : Bit) (js : List Pulls) → 1 ≤ x .valid → BitRule L x
-      → run L (suc s) (SetUp m left v s (x .first)) (map shows (map sets (x .others) ++ (replicate (x .valid) (offers (bit x)) ++ js)))
-      ≡ run L (s + suc (length (x .others) + x .valid)) (Valid m left v (suc s + length (x .others)) (bit x)) (map shows js)
+      → run L (suc s) (SetUp m left v s (x .first)) (map shows (map sets (x .others) ++ (replicate (x .valid) (offers (x .bit)) ++ js)))
+      ≡ run L (s + suc (length (x .others) + x .valid)) (Valid m left v (suc s + length (x .others)) (x .bit)) (map shows js)
   unfolding next
   along-bit m left v s x js one rules =
       along-set-up m left v s (suc s) (x .first) (x .others) _ (omega (arith, rules .set-up))
-      ∙ enters (SetUp m left v s (bit x)) (Valid m left v (suc s + length (x .others)) (bit x)) false (bit x) false (x .valid)
-      (suc s + length (x .others)) js one (is-same (bit x) _ _)
-      (λ i a b. is-same (bit x) _ _ ∙ is-below _ _ _ _ _ (omega (arith, rules .valid-most)))
+      ∙ ap (λ (b : Bool). run L (suc s + length (x .others)) (SetUp m left v s b)
+      (map shows (replicate (x .valid) (offers (x .bit)) ++ js))) (sym (rules .steady))
+      ∙ enters (SetUp m left v s (x .bit)) (Valid m left v (suc s + length (x .others)) (x .bit)) false (x .bit) false (x .valid)
+      (suc s + length (x .others)) js one (is-same (x .bit) _ _)
+      (λ i a b. is-same (x .bit) _ _ ∙ is-below _ _ _ _ _ (omega (arith, rules .valid-most)))
       ∙ at-tick _ _ (omega arith)
 
   -- The receiver holds DATA; the sender releases CLK, which hands the byte over; the receiver lets go.
@@ -271,7 +273,7 @@ module _ (L : Limits) where
     along-mark any gap ack resp now js rule =
         along-gap any gap now _ (omega (arith, times .end-mark)) (rule .gap-most)
         ∙ enters (ReadyForData any now) (Acknowledgement any now (now + gap)) false false true ack (now + gap) _
-        (omega (arith, times .acknowledge)) (not-below _ _ _ _ _ (omega arith)) (λ i x y. is-below _ _ _ _ _ (omega arith))
+        (omega (arith, times .acknowledge-some)) (not-below _ _ _ _ _ (omega arith)) (λ i x y. is-below _ _ _ _ _ (omega arith))
         ∙ enters (Acknowledgement any now (now + gap)) (Acknowledged any now (now + gap + ack)) false false false resp
         (now + gap + ack) _ (rule .response-least) (not-below _ _ _ _ _ (omega arith))
         (λ i x y. is-below _ _ _ _ _ (omega (arith, times .timeout)))
@@ -279,23 +281,23 @@ module _ (L : Limits) where
     -- Bits, from the tick after the first set-up tick to the CLK pull after the last of them, which shows DATA d.
     along-bits : (m : Bool) (v now : ℕ) (x : Bit) (xs : List Bit) (d : Bool) (js : List Pulls) → BitRule L x → BitRules L xs
         → run L (suc now) (SetUp m (length xs) v now (x .first))
-        (map shows (map sets (x .others) ++ (replicate (x .valid) (offers (bit x)) ++ bitsTrack xs (sets d ∷ js))))
-        ≡ onward (handover m (takenIn v (x ∷ xs)) (now + bitsTicks (x ∷ xs)) (lastBit (bit x) xs) d) (now + bitsTicks (x ∷ xs))
+        (map shows (map sets (x .others) ++ (replicate (x .valid) (offers (x .bit)) ++ bitsTrack xs (sets d ∷ js))))
+        ≡ onward (handover m (takenIn v (x ∷ xs)) (now + bitsTicks (x ∷ xs)) (lastBit (x .bit) xs) d) (now + bitsTicks (x ∷ xs))
         (λ (q : Phase). run L (suc (now + bitsTicks (x ∷ xs))) q (map shows js))
     unfolding next afterBit
     along-bits m v now x [] d js rules all =
-        along-bit m 0 v now x (sets d ∷ js) (omega (arith, times .valid, rules .valid-least)) rules
-        ∙ one-tick _ (Valid m 0 v (suc now + length (x .others)) (bit x))
-        (handover m (withBit v (bit x)) (now + suc (length (x .others) + x .valid)) (bit x) d) true d _
+        along-bit m 0 v now x (sets d ∷ js) (omega (arith, times .valid-some, rules .valid-least)) rules
+        ∙ one-tick _ (Valid m 0 v (suc now + length (x .others)) (x .bit))
+        (handover m (withBit v (x .bit)) (now + suc (length (x .others) + x .valid)) (x .bit) d) true d _
         (not-below _ _ _ _ _ (omega (arith, rules .valid-least)))
-        ∙ ap (λ e. onward (handover m (withBit v (bit x)) e (bit x) d) e (λ (q : Phase). run L (suc e) q (map shows js))) (omega arith)
+        ∙ ap (λ e. onward (handover m (withBit v (x .bit)) e (x .bit) d) e (λ (q : Phase). run L (suc e) q (map shows js))) (omega arith)
     along-bits m v now x (y ∷ ys) d js rules all =
-        along-bit m (suc (length ys)) v now x _ (omega (arith, times .valid, rules .valid-least)) rules
-        ∙ step _ (Valid m (suc (length ys)) v (suc now + length (x .others)) (bit x))
-        (SetUp m (length ys) (withBit v (bit x)) (now + suc (length (x .others) + x .valid)) (y .first)) true (y .first) _
+        along-bit m (suc (length ys)) v now x _ (omega (arith, times .valid-some, rules .valid-least)) rules
+        ∙ step _ (Valid m (suc (length ys)) v (suc now + length (x .others)) (x .bit))
+        (SetUp m (length ys) (withBit v (x .bit)) (now + suc (length (x .others) + x .valid)) (y .first)) true (y .first) _
         (not-below _ _ _ _ _ (omega (arith, rules .valid-least)))
-        ∙ along-bits m (withBit v (bit x)) (now + suc (length (x .others) + x .valid)) y ys d js (all .0) (all .1)
-        ∙ ap (λ e. onward (handover m (takenIn v (x ∷ y ∷ ys)) e (lastBit (bit y) ys) d) e (λ (q : Phase). run L (suc e) q
+        ∙ along-bits m (withBit v (x .bit)) (now + suc (length (x .others) + x .valid)) y ys d js (all .0) (all .1)
+        ∙ ap (λ e. onward (handover m (takenIn v (x ∷ y ∷ ys)) e (lastBit (y .bit) ys) d) e (λ (q : Phase). run L (suc e) q
         (map shows js))) (omega arith)
 
     -- A phase that a CLK pull at tick e leaves for the bits of a byte.
@@ -317,9 +319,9 @@ module _ (L : Limits) where
     along-fields m p e (x ∷ xs) l (suc t) (suc n) k js b rules =
         let seven : length xs ≡ 7 = omega (arith, rules .bits .eight) in
         let r =
-        along-handover m (lastBit (bit x) xs) (takenIn 0 (x ∷ xs)) (e + bitsTicks (x ∷ xs)) l t n k js (rules .handover .zero-keeps-not)
+        along-handover m (lastBit (x .bit) xs) (takenIn 0 (x ∷ xs)) (e + bitsTicks (x ∷ xs)) l t n k js (rules .handover .zero-keeps-not)
         (rules .handover .keeps)
-        (rules .handover .take-most) (omega (arith, rules .release .after-take, times .keep-release, times .keep)) (omega
+        (rules .handover .take-most) (omega (arith, rules .release .after-take, times .keep-release, times .keep-some)) (omega
         (arith, rules .release .after-take))
         (rules .release .let-go) in
         record {

@@ -1,7 +1,8 @@
--- Why it holds. The crate above cites Demand3, Room and Run.
+-- Why it holds. The crate above cites TickLaws, Room and Demand3.
 pub mod Tests
 pub mod Rows
 pub mod Run
+pub mod TickLaws
 pub mod Room
 pub mod HandoverTicks
 pub mod ByteValue

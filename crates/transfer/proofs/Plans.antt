@@ -7,10 +7,10 @@ use mathlib.Core.Bool.{Bool, true, false}
 use mathlib.Core.List.{List, [], _∷_, _++_, map}
 use lib.ListN.{length, replicate}
 use Rattle.transfer.specs.Phases.{withBit}
-use Rattle.transfer.specs.Parties.{Pulls, nobody, held, clock, clockHeld, sets, offers, Bit, lastOf}
+use Rattle.transfer.specs.Parties.{Pulls, nobody, held, clock, clockHeld, sets, offers, Bit}
 use Rattle.transfer.specs.Parties.{Frame, more, last, bitsTrack, frameTrack, bitsTicks}
 use Rattle.transfer.specs.Parties.{byteOf, afterFrame, sendingBytes}
-use Rattle.transfer.specs.Rules.{ReleaseRule, PlainRule, EndMarkRule, BitRules, HandoverRule, FrameRules}
+use Rattle.transfer.specs.Rules.{lastOf, ReleaseRule, PlainRule, EndMarkRule, BitRules, HandoverRule, FrameRules}
 use Rattle.transfer.specs.Demand3.{Consistent}
 use Rattle.transfer.specs.declared.limits.Limits.{Limits}
 use Rattle.transfer.specs.declared.phase.Byte.{Byte}
@@ -121,7 +121,7 @@ module _ (L : Limits) where
         at (inr h) =
             handover-of mark bit8 value e 1 0 1 (e + 1) js (f .rest) l (f .splits) refl refl
             (record {
-              keeps = times .keep;
+              keeps = times .keep-some;
               zero-keeps-not = no-zero 1;
               take-least = omega arith;
               take-most = omega (arith, times .keep-take);
@@ -160,13 +160,14 @@ module _ (L : Limits) where
         let o = many (s .after) in
         let r = bits-plan mark c left (withBit value c) (o .till) (o .rest) l (o .after .2) in
         record {
-          bits = record { first = d; others = s .pulled; valid = o .count } ∷ r .bits;
+          bits = record { first = d; others = s .pulled; bit = c; valid = o .count } ∷ r .bits;
           number = ap suc (r .number);
           rules = (
             record {
               set-up = omega (arith, s .ends, s .fits);
               valid-least = omega (arith, o .ends, o .after .0);
               valid-most = omega (arith, o .ends, o .after .1);
+              steady = refl;
             },
             r .rules,
           );

@@ -3,7 +3,7 @@
 use Prim.Native.Nat.{ℕ, suc, _+_}
 use native.Mathlib.Omega.{arith}
 use native.Mathlib.Numerals.{add-one}
-use mathlib.Core.Path.{_≡_, refl, sym, ap, _∙_}
+use mathlib.Core.Path.{_≡_, refl, sym, ap, ap₂, _∙_}
 use mathlib.Core.Bool.{Bool, true, false}
 use mathlib.Core.List.{List, [], _∷_, _++_}
 use borrow.Author.Tests.{eq-eqb, ne-eqb}
@@ -22,6 +22,7 @@ use Rattle.transfer.specs.declared.phase.Phase.the-variants.{End, Decide
 use Rattle.transfer.specs.declared.state.State.{State}
 use Rattle.transfer.specs.declared.verdict.Fault.{Fault}
 use Rattle.transfer.specs.declared.verdict.Fault.the-variants.{Attention}
+use Rattle.transfer.proofs.TickLaws.{stands as decided-stands}
 use Rattle.transfer.proofs.Rows.{Climbs, stops, goes, hands, climbs, settled}
 
 abbrev pub decided : Fault → ℕ → Outcome
@@ -67,9 +68,11 @@ undecided (Decided fault) c d e = sym e
 module _ (L : Limits) where
   -- A verdict stands, whatever ticks follow.
   stands : (f : Fault) (s : State) (w : List Lines) → outcomeFrom L (follow s (Stop f)) w ≡ decided f (s .tick)
-  unfolding stateAfter handedOver nextState follow
-  stands f s [] = refl
-  stands f s (l ∷ w) = rw (eq-eqb (s .count) (s .count) refl) (stands f s w)
+  unfolding follow
+  stands f s w =
+      let same = decided-stands L (follow s (Stop f)) w refl in
+      ap₂ (λ (t : State) (bytes : List Byte). record { decision = decisionOf (t .phase) (t .tick); bytes = bytes }) (same .state)
+      (same .bytes)
 
   -- The outcome where a tick led from s to t.
   abbrev past : (s t : State) → List Lines → Outcome

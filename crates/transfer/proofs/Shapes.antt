@@ -8,9 +8,9 @@ use mathlib.Core.Bool.{Bool, true, false}
 use mathlib.Core.List.{List, [], _∷_, _++_, map}
 use lib.ListN.{length, replicate}
 use Rattle.transfer.specs.Phases.{withBit}
-use Rattle.transfer.specs.Parties.{Pulls, pulls, nobody, held, clock, clockHeld, sets, offers, lastOf, Sending}
+use Rattle.transfer.specs.Parties.{Pulls, pulls, nobody, held, clock, clockHeld, sets, offers, Sending}
 use Rattle.transfer.specs.Parties.{more, last, sendingTrack, sendingBytes}
-use Rattle.transfer.specs.Rules.{SendingRules}
+use Rattle.transfer.specs.Rules.{lastOf, SendingRules}
 use Rattle.transfer.specs.declared.limits.Limits.{Limits}
 use Rattle.transfer.specs.declared.phase.Byte.{Byte}
 use Rattle.transfer.specs.declared.phase.Phase.{Phase}

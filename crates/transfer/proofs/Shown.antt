@@ -7,7 +7,7 @@ use mathlib.Core.List.{List, [], _∷_, _++_, map}
 use lib.ListN.{length, replicate}
 use borrow.Author.Tests.{lt-ltb, le-ltb}
 use Rattle.transfer.specs.Choice.{if_then_else_}
-use Rattle.transfer.specs.Parties.{Pulls, pulls, nobody, held, clock, clockHeld, sets, offers, Bit, bit, Frame}
+use Rattle.transfer.specs.Parties.{Pulls, pulls, nobody, held, clock, clockHeld, sets, offers, Bit, Frame}
 use Rattle.transfer.specs.Parties.{Sending, more, last, Plan, bitsTrack, frameTrack, sendingTrack, track}
 use Rattle.transfer.specs.Parties.{bitsTicks, byteOf, afterFrame, sendingBytes, planBytes}
 use Rattle.transfer.specs.Rules.{FrameRules, SendingRules, PlanRules}
@@ -97,12 +97,12 @@ module _ (b : Byte) (l : List Byte) where
 
   -- A bit after its first set-up tick, and all bits that follow.
   sends-bit : (x : Bit) (now : ℕ) (js : List Pulls) → now + length (x .others) + x .valid ≤ b .«let_go»
-      → shownFrom now (sending b l) (map shows (map sets (x .others) ++ (replicate (x .valid) (offers (bit x)) ++ js)))
-      ≡ map sets (x .others) ++ (replicate (x .valid) (offers (bit x)) ++ shownFrom (now + length (x .others) + x .valid)
+      → shownFrom now (sending b l) (map shows (map sets (x .others) ++ (replicate (x .valid) (offers (x .bit)) ++ js)))
+      ≡ map sets (x .others) ++ (replicate (x .valid) (offers (x .bit)) ++ shownFrom (now + length (x .others) + x .valid)
       (sending b l) (map shows js))
   sends-bit x now js h =
       sends-set-up (x .others) now _ (omega arith)
-      ∙ ap (λ y. map sets (x .others) ++ y) (sends-valid (bit x) (x .valid) (now + length (x .others)) js (omega arith))
+      ∙ ap (λ y. map sets (x .others) ++ y) (sends-valid (x .bit) (x .valid) (now + length (x .others)) js (omega arith))
 
   sends-bits : (xs : List Bit) (now : ℕ) (js : List Pulls) → now + bitsTicks xs ≤ b .«let_go»
       → shownFrom now (sending b l) (map shows (bitsTrack xs js))
@@ -112,7 +112,7 @@ module _ (b : Byte) (l : List Byte) where
       sends now true (x .first) _ (omega arith)
       ∙ ap (λ y. sets (x .first) ∷ y)
       (sends-bit x (suc now) _ (omega arith)
-      ∙ ap (λ y. map sets (x .others) ++ (replicate (x .valid) (offers (bit x)) ++ y))
+      ∙ ap (λ y. map sets (x .others) ++ (replicate (x .valid) (offers (x .bit)) ++ y))
       (sends-bits xs (suc now + length (x .others) + x .valid) js (omega arith)
       ∙ ap (bitsTrack xs) (at-tick (sending b l) (map shows js) (omega arith))))
 
@@ -155,10 +155,10 @@ module _ (L : Limits) (times : Consistent L) where
       begins b l now (x .first) _
       ∙ ap (λ y. sets (x .first) ∷ y)
       (sends-bit b l x (suc now) _ (omega arith)
-      ∙ ap (λ y. map sets (x .others) ++ (replicate (x .valid) (offers (bit x)) ++ y))
+      ∙ ap (λ y. map sets (x .others) ++ (replicate (x .valid) (offers (x .bit)) ++ y))
       (sends-bits b l xs (suc now + length (x .others) + x .valid) _ (omega arith)
       ∙ ap (bitsTrack xs)
-      (sends-handover b l k t n _ _ (omega arith) tidy (omega (arith, rules .release .after-take, times .keep, times .keep-release))
+      (sends-handover b l k t n _ _ (omega arith) tidy (omega (arith, rules .release .after-take, times .keep-some, times .keep-release))
       ∙ ap (λ y. handoverTicks n k t ++ y)
       (holds-waits wait _ l js (rules .release .let-go)
       ∙ ap (λ y. replicate wait held ++ y) (at-tick (waiting l) (map shows js) (omega arith))))))

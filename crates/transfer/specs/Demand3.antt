@@ -15,22 +15,23 @@ use Rattle.transfer.specs.declared.verdict.Verdict.the-variants.{Complet
 
 -- What the times have to keep among themselves.
 pub record Consistent (L : Limits) : Type 0 where
-  -- D: the silence of an end mark lasts a tick at the least; D lasts as long as a byte without one may begin, and a tick at the
-  -- least.
+  -- D: the gap before an end mark lasts a tick at the least.
   pub end-mark : 1 ≤ L .«end_mark»
+  -- D lasts as long as a byte without an end mark may begin.
   pub end-mark-in-time : L .«end_mark» ≤ suc (L .«end_mark_latest»)
+  -- D lasts a tick at the least.
   pub ready-for-data : 1 ≤ L .«end_mark_latest»
-  -- F: an acknowledgement lasts a tick at the least, and may be long enough.
-  pub acknowledge : 1 ≤ L .«acknowledge_least»
-  pub acknowledges : L .«acknowledge_least» ≤ L .«acknowledge_most»
+  -- F: an acknowledgement lasts a tick at the least, and has time to be long enough.
+  pub acknowledge-some : 1 ≤ L .«acknowledge_least»
+  pub acknowledge-room : L .«acknowledge_least» ≤ L .«acknowledge_most»
   -- G: the time-out doesn't cut the sender's response off.
   pub timeout : L .«end_mark_latest» + L .«acknowledge_most» + L .response ≤ L .«sender_timeout»
-  -- Bits: set-up and valid time last a tick at the least, and a bit may be valid long enough.
-  pub set-up : 1 ≤ L .«set_up_most»
-  pub valid : 1 ≤ L .«valid_least»
-  pub valids : L .«valid_least» ≤ L .«valid_most»
-  -- Handover: the sender may keep DATA for a tick, and stops before the receiver's time is over and before CLK is released.
-  pub keep : 1 ≤ L .«keep_most»
+  -- Bits: a set-up and a valid time last a tick at the least, and a bit has time to be valid long enough.
+  pub set-up-some : 1 ≤ L .«set_up_most»
+  pub valid-some : 1 ≤ L .«valid_least»
+  pub valid-room : L .«valid_least» ≤ L .«valid_most»
+  -- Handover: the sender may keep DATA for a tick; it stops before the receiver's time is over, and before CLK is released.
+  pub keep-some : 1 ≤ L .«keep_most»
   pub keep-take : L .«keep_most» < L .«take_latest»
   pub keep-release : L .«keep_most» ≤ L .«between_bytes»
 
@@ -51,17 +52,17 @@ module _ (L : Limits) (w : List Lines) where
   abbrev pub shownReceiver : List Bool
   shownReceiver = map receiverPulls (shown ledger w)
 
-  -- Two tracks are a pair for the string, with these ticks, and give the tick list.
-  pub record Explains (string : List ℕ) (sender : List SenderPulls) (receiver : List Bool) (ticks : List Byte) : Type 0 where
-    pub pair : Pair L string sender receiver ticks
+  -- Two tracks are a pair for the string, dated so, and give the tick list.
+  pub record Explains (string : List ℕ) (sender : List SenderPulls) (receiver : List Bool) (dated : List Byte) : Type 0 where
+    pub pair : Pair L string sender receiver dated
     pub gives-it : gives sender receiver ≡ w
 
   -- Some rule-keeping sender and receiver could have made the tick list.
   pub record Explained (string : List ℕ) : Type 0 where
     pub sender : List SenderPulls
     pub receiver : List Bool
-    pub ticks : List Byte
-    pub explains : Explains string sender receiver ticks
+    pub dated : List Byte
+    pub explains : Explains string sender receiver dated
 
   pub record Demand3 : Type 0 where
     -- Complete with a string exactly if a pair for it gives the ticks.
@@ -69,8 +70,8 @@ module _ (L : Limits) (w : List Lines) where
     -- The shown pair "is a pair for the string, it gives the recording, and its two ticks for each byte are the ledger's".
     pub shown-pair : (string : List ℕ) → CompleteWith string → Explains string shownSender shownReceiver ledger
     -- "Every other pair that gives the recording has, at each of the two places of each byte, that tick or a later one."
-    pub earliest : (string : List ℕ) (sender : List SenderPulls) (receiver : List Bool) (ticks : List Byte)
-        → Explains string sender receiver ticks → SameOrLater ledger ticks
+    pub earliest : (string : List ℕ) (sender : List SenderPulls) (receiver : List Bool) (dated : List Byte)
+        → Explains string sender receiver dated → SameOrLater ledger dated
     -- If no pair exists for any string, it is never complete.
     pub never : ((string : List ℕ) → Explained string → ⊥) → outcome L w .decision .verdict ≡ Complete → ⊥
 

@@ -7,6 +7,8 @@ pub mod Phases
 pub mod Verdicts
 pub mod States
 pub mod Outcome
+pub mod TickLaws
+pub mod Spans
 pub mod Parties
 pub mod Rules
 pub mod Pair
@@ -14,3 +16,4 @@ pub mod Shown
 pub mod Demand3
 pub mod Room
 pub mod Readings
+pub mod Facts

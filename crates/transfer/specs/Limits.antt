@@ -7,7 +7,7 @@ standardLimits =
     record {
       presence = 256;  -- A: the last tick at which a receiver may first take DATA (000)
       «between_bytes» = 100;  -- B, carried: from a take to the next release of CLK, at the least (000)
-      «end_mark» = 200;  -- D: silence that long means an end mark; CLK pulled before it, none (003)
+      «end_mark» = 200;  -- D: a gap that long means an end mark; CLK pulled before it, none (003)
       «end_mark_latest» = 290;  -- D: the latest start of an acknowledgement (H)
       «acknowledge_least» = 60;  -- F: the shortest acknowledgement (003)
       «acknowledge_most» = 150;  -- F: the longest acknowledgement (H)

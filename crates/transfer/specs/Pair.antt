@@ -38,14 +38,14 @@ abbrev pub values : List Byte → List ℕ
 values bytes = map (λ (b : Byte). b .value) bytes
 
 -- "A pair for a string of one or more bytes is a sender track .. and a receiver track .. with" a plan that keeps the rules;
--- `ticks` are "a pair's two ticks for" each byte.
-pub record Pair (L : Limits) (string : List ℕ) (sender : List SenderPulls) (receiver : List Bool) (ticks : List Byte) : Type 0 where
+-- `dated` has the bytes with "a pair's two ticks for" each.
+pub record Pair (L : Limits) (string : List ℕ) (sender : List SenderPulls) (receiver : List Bool) (dated : List Byte) : Type 0 where
   pub plan : Plan
   pub rules : PlanRules L plan
   pub sends : sender ≡ senderTrack plan
   pub receives : receiver ≡ receiverTrack plan
   pub string-is : string ≡ values (planBytes plan)
-  pub ticks-are : ticks ≡ planBytes plan
+  pub dated-so : dated ≡ planBytes plan
 
 -- "At each of the two places of each byte, that tick or a later one": b against the ledger's a, for the same bytes.
 abbrev pub SameOrLater : (ledger other : List Byte) → Type 0

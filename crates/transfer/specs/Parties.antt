@@ -34,19 +34,13 @@ sets d = pulls true d false
 abbrev pub offers : Bool → Pulls
 offers d = pulls false d false
 
--- A bit: the sender's DATA in its set-up ticks, `first` and `others`, and the number of its valid ticks. DATA is free in the
--- set-up; its last tick is the bit, and the valid ticks keep it.
+-- A bit: the sender's DATA in its set-up ticks, `first` and `others`, free; the bit itself, which is its DATA while valid; and the
+-- number of its valid ticks.
 pub record Bit : Type 0 where
   pub first : Bool
   pub others : List Bool
+  pub bit : Bool
   pub valid : ℕ
-
-abbrev pub lastOf : Bool → List Bool → Bool
-lastOf d [] = d
-lastOf d (e ∷ others) = lastOf e others
-
-abbrev pub bit : Bit → Bool
-bit x = lastOf (x .first) (x .others)
 
 -- A byte as it is sent: its bits, then, counted from the CLK pull after bit 8, the offsets of the sender's letting go of DATA (0 where it
 -- doesn't pull on), of the receiver's take and of the sender's release of CLK; then the ticks until the receiver lets go.
@@ -72,7 +66,7 @@ pub record Plan : Type 0 where
 
 -- "The sender sends eight bits ..; the receiver keeps off DATA."
 abbrev pub bitTrack : Bit → List Pulls → List Pulls
-bitTrack x rest = sets (x .first) ∷ (map sets (x .others) ++ (replicate (x .valid) (offers (bit x)) ++ rest))
+bitTrack x rest = sets (x .first) ∷ (map sets (x .others) ++ (replicate (x .valid) (offers (x .bit)) ++ rest))
 
 abbrev pub bitsTrack : List Bit → List Pulls → List Pulls
 bitsTrack [] rest = rest
@@ -111,7 +105,7 @@ track p =
 -- The byte that bits make, least significant first, pulled is one; the first of them weighs `weight`.
 abbrev pub valueOf : (weight : ℕ) → List Bit → ℕ
 valueOf weight [] = 0
-valueOf weight (x ∷ xs) = (if bit x then weight else 0) + valueOf (weight + weight) xs
+valueOf weight (x ∷ xs) = (if x .bit then weight else 0) + valueOf (weight + weight) xs
 
 abbrev pub bitsTicks : List Bit → ℕ
 bitsTicks [] = 0

@@ -1,5 +1,6 @@
 -- Where two rows of document 01 meet: tick lists whose outcomes show how it is read there. docs/DECISIONS.md gives the reasons.
 use Prim.Native.Nat.{ℕ, _+_}
+use mathlib.Core.Path.{_≡_}
 use mathlib.Core.List.{List, [], _∷_, _++_}
 use mathlib.Core.Bool.{Bool, true, _&&_}
 use lib.Dec.{eqb}
@@ -7,48 +8,52 @@ use lib.ListN.{length}
 use Rattle.transfer.specs.Lines.{linesOf}
 use Rattle.transfer.specs.Limits.{standardLimits}
 use Rattle.transfer.specs.Outcome.{outcome}
-use Rattle.transfer.specs.Room.{Step, ticks}
+use Rattle.transfer.specs.Spans.{Span, ticks}
 use Rattle.transfer.specs.Verdicts.{verdictNumber}
 
--- `d ∶ b` is a step of duration d that shows the line byte b: 1 is ATN, 2 CLK, 4 DATA.
+-- `d ∶ b` is a span of duration d that shows the line byte b: 1 is ATN, 2 CLK, 4 DATA.
 infix 90 _∶_
-abbrev pub _∶_ : ℕ → ℕ → Step
+abbrev pub _∶_ : ℕ → ℕ → Span
 d ∶ b = record { duration = d; lines = linesOf b }
 
--- Up to the bits of a first and last byte: the ticks of silence, those of the acknowledgement, and 40 more.
-abbrev pub opening : (silence acknowledgement : ℕ) → List Step
-opening silence acknowledgement = 200 ∶ 6 ∷ 50 ∶ 4 ∷ silence ∶ 0 ∷ acknowledgement ∶ 4 ∷ 40 ∶ 0 ∷ []
+-- Up to the bits of a first and last byte: the ticks of the gap, those of the acknowledgement, and 40 more.
+abbrev pub opening : (gap acknowledgement : ℕ) → List Span
+opening gap acknowledgement = 200 ∶ 6 ∷ 50 ∶ 4 ∷ gap ∶ 0 ∷ acknowledgement ∶ 4 ∷ 40 ∶ 0 ∷ []
 
 -- Bits that show these DATA, 0 or 4, with a set-up of 70 and a valid time of 60 ticks each.
-abbrev pub bits : List ℕ → List Step
+abbrev pub bits : List ℕ → List Span
 bits [] = []
 bits (d ∷ ds) = 70 ∶ (2 + d) ∷ 60 ∶ d ∷ bits ds
 
 -- The byte 0x41 and the byte 0x80, from tick 0 to the CLK pull after bit 8, which is tick 1,630.
-abbrev pub till41 : List Step
+abbrev pub till41 : List Span
 till41 = opening 220 80 ++ bits (4 ∷ 0 ∷ 0 ∷ 0 ∷ 0 ∷ 0 ∷ 4 ∷ 0 ∷ [])
 
-abbrev pub till80 : List Step
+abbrev pub till80 : List Span
 till80 = opening 220 80 ++ bits (0 ∷ 0 ∷ 0 ∷ 0 ∷ 0 ∷ 0 ∷ 0 ∷ 4 ∷ [])
 
+-- S1 of document 01, "Sample recordings".
+abbrev pub s1 : List Span
+s1 = till41 ++ (30 ∶ 2 ∷ 200 ∶ 6 ∷ 50 ∶ 4 ∷ 100 ∶ 0 ∷ [])
+
 -- The byte 0x41 as a first byte that is not the last.
-abbrev pub plain41 : List Step
+abbrev pub plain41 : List Span
 plain41 = 200 ∶ 6 ∷ 50 ∶ 4 ∷ 60 ∶ 0 ∷ bits (4 ∷ 0 ∷ 0 ∷ 0 ∷ 0 ∷ 0 ∷ 4 ∷ 0 ∷ [])
 
 -- A tick list, and the number, tick and count that it comes to.
 pub record Reading : Type 0 where
-  pub steps : List Step
+  pub spans : List Span
   pub number : ℕ
   pub tick : ℕ
   pub count : ℕ
 
-abbrev pub reads : List Step → (number tick count : ℕ) → Reading
-reads steps number tick count = record { steps = steps; number = number; tick = tick; count = count }
+abbrev pub reads : List Span → (number tick count : ℕ) → Reading
+reads spans number tick count = record { spans = spans; number = number; tick = tick; count = count }
 
 abbrev pub readings : List Reading
 readings =
     -- S1 of document 01, and the same without its last step.
-    reads (till41 ++ (30 ∶ 2 ∷ 200 ∶ 6 ∷ 50 ∶ 4 ∷ 100 ∶ 0 ∷ [])) 20 1910 1
+    reads s1 20 1910 1
     ∷ reads (till41 ++ (30 ∶ 2 ∷ 200 ∶ 6 ∷ 50 ∶ 4 ∷ [])) 22 1910 1
     -- A 201st set-up tick, and a 201st valid tick: 34.
     ∷ reads (opening 220 80 ++ (201 ∶ 6 ∷ [])) 34 790 0
@@ -79,6 +84,19 @@ readings =
     -- The 512 counts from D's first tick, through the acknowledgement: 21 with no byte handed over, 31 after one.
     ∷ reads (opening 220 80 ++ (300 ∶ 0 ∷ [])) 21 762 0
     ∷ reads (plain41 ++ (30 ∶ 2 ∷ 200 ∶ 6 ∷ 50 ∶ 4 ∷ 220 ∶ 0 ∷ 80 ∶ 4 ∷ 300 ∶ 0 ∷ [])) 31 2142 1
+    -- D's and F's last offsets, and carried's: 27, 29 and 26 fall one tick later than the last that is allowed.
+    ∷ reads (200 ∶ 6 ∷ 50 ∶ 4 ∷ 291 ∶ 0 ∷ []) 27 540 0
+    ∷ reads (200 ∶ 6 ∷ 50 ∶ 4 ∷ 220 ∶ 0 ∷ 151 ∶ 4 ∷ []) 29 620 0
+    ∷ reads (till80 ++ (101 ∶ 6 ∷ 1 ∶ 2 ∷ [])) 26 1731 0
+    -- F: an acknowledgement of 59 ticks is too short, one of 60 is not.
+    ∷ reads (opening 220 59) 28 529 0
+    ∷ reads (opening 220 60) 22 570 0
+    -- ATN comes before anything else, also in E and where tick 0 would be 25.
+    ∷ reads (1 ∶ 1 ∷ []) 23 0 0
+    ∷ reads (s1 ++ (1 ∶ 1 ∷ [])) 23 2010 1
+    -- E: any tick other than (0,0) is 37. SRQ, bit 3, changes no answer.
+    ∷ reads (s1 ++ (1 ∶ 2 ∷ [])) 37 2010 1
+    ∷ reads (s1 ++ (1 ∶ 8 ∷ [])) 20 1910 1
     -- A verdict stands: ATN pulled later changes nothing.
     ∷ reads (1 ∶ 0 ∷ 1 ∶ 1 ∷ []) 25 0 0
     -- No ticks at all.
@@ -87,9 +105,12 @@ readings =
 
 abbrev pub holds : Reading → Bool
 holds r =
-    let o = outcome standardLimits (ticks (r .steps)) in
+    let o = outcome standardLimits (ticks (r .spans)) in
     eqb (verdictNumber (o .decision .verdict)) (r .number) && (eqb (o .decision .tick) (r .tick) && eqb (length (o .bytes)) (r .count))
 
 abbrev pub allHold : List Reading → Bool
 allHold [] = true
 allHold (r ∷ rs) = holds r && allHold rs
+
+abbrev pub ReadingsHold : Type 0
+ReadingsHold = allHold readings ≡ true

@@ -1,30 +1,16 @@
--- The room law: a byte takes at least nineteen steps.
-use Prim.Native.Nat.{ℕ, _*_, _≤_, _<_}
-use mathlib.Core.Path.{_≡_}
-use mathlib.Core.List.{List, [], _∷_, _++_}
-use lib.ListN.{length, replicate}
-use Rattle.transfer.specs.Outcome.{outcome, stateAfter}
-use Rattle.transfer.specs.States.{firstState}
+-- The room law: a byte takes at least nineteen steps, or spans of equal lines.
+use Prim.Native.Nat.{_*_, _≤_, _<_}
+use mathlib.Core.List.{List}
+use lib.ListN.{length}
+use Rattle.transfer.specs.Outcome.{outcome}
+use Rattle.transfer.specs.Spans.{Span, ticks}
 use Rattle.transfer.specs.declared.limits.Limits.{Limits}
-use Rattle.transfer.specs.declared.lines.Lines.{Lines}
 
--- A step of a recording: so many ticks that show the same lines.
-pub record Step : Type 0 where
-  pub duration : ℕ
-  pub lines : Lines
-
--- The ticks that steps mean.
-abbrev pub ticks : List Step → List Lines
-ticks [] = []
-ticks (s ∷ steps) = replicate (s .duration) (s .lines) ++ ticks steps
-
--- For any steps, so also for those that a loop over the steps has read so far, with the ticks of the last one in part.
-pub record RoomLaw (L : Limits) (steps : List Step) : Type 0 where
-  pub handed-over : 19 * length (outcome L (ticks steps) .bytes) ≤ length steps
+pub record Room (L : Limits) (spans : List Span) : Type 0 where
+  pub nineteen : 19 * length (outcome L (ticks spans) .bytes) ≤ length spans
   -- So 16,000 steps never hand over 1,000.
-  pub few : length steps ≤ 16000 → length (outcome L (ticks steps) .bytes) < 1000
-  -- The state's count is the number of bytes handed over.
-  pub counted : stateAfter L firstState (ticks steps) .count ≡ length (outcome L (ticks steps) .bytes)
+  pub few : length spans ≤ 16000 → length (outcome L (ticks spans) .bytes) < 1000
 
-abbrev pub RoomLaws : Type 0
-RoomLaws = (L : Limits) (steps : List Step) → RoomLaw L steps
+-- In every run: for any spans, so also for those that a loop over the steps has read so far, the last of them in part.
+abbrev pub RoomLaw : Type 0
+RoomLaw = (L : Limits) (spans : List Span) → Room L spans

@@ -5,8 +5,17 @@ use mathlib.Core.Path.{_≡_}
 use mathlib.Core.Bool.{Bool, false}
 use mathlib.Core.List.{List, [], _∷_, map}
 use lib.ListN.{length}
-use Rattle.transfer.specs.Parties.{Bit, bit, lastOf, Frame, Sending, more, last, Plan}
+use Rattle.transfer.specs.Parties.{Bit, Frame, Sending, more, last, Plan}
 use Rattle.transfer.specs.declared.limits.Limits.{Limits}
+
+-- The last of d and what follows it.
+abbrev pub lastOf : Bool → List Bool → Bool
+lastOf d [] = d
+lastOf d (e ∷ others) = lastOf e others
+
+-- Bit 8, the last of a byte's bits.
+abbrev pub bitEight : List Bit → Bool
+bitEight bits = lastOf false (map (λ (x : Bit). x .bit) bits)
 
 module _ (L : Limits) where
   -- "The sender pulls CLK from tick 0. The receiver takes DATA at tick 0 to 256 and holds it."
@@ -38,12 +47,13 @@ module _ (L : Limits) where
     pub response-least : 1 ≤ response
     pub response-most : response ≤ L .response
 
-  -- "The sender sends eight bits with the set-up, valid and steadiness rules above; .." Steadiness is in the track: the valid
-  -- ticks show the DATA of the last set-up tick.
+  -- "The sender sends eight bits with the set-up, valid and steadiness rules above; .." Steady: the first valid tick shows the DATA
+  -- of the last set-up tick, and the further ones keep it.
   pub record BitRule (x : Bit) : Type 0 where
     pub set-up : suc (length (x .others)) ≤ L .«set_up_most»
     pub valid-least : L .«valid_least» ≤ x .valid
     pub valid-most : x .valid ≤ L .«valid_most»
+    pub steady : x .bit ≡ lastOf (x .first) (x .others)
 
   abbrev pub BitRules : List Bit → Type 0
   BitRules [] = Unit {0}
@@ -68,7 +78,7 @@ module _ (L : Limits) where
   -- A byte keeps the rules of its bits, of its handover and of the release after it.
   pub record FrameRules (f : Frame) : Type 0 where
     pub bits : EightBitsRule (f .bits)
-    pub handover : HandoverRule (lastOf false (map bit (f .bits))) (f .let-go) (f .take)
+    pub handover : HandoverRule (bitEight (f .bits)) (f .let-go) (f .take)
     pub release : ReleaseRule (f .take) (f .release) (f .wait)
 
   pub record MoreRules (gap : ℕ) (f : Frame) : Type 0 where

@@ -24,7 +24,7 @@ impl Limits {
     pub const PRESENCE: u32 = 256;
     // The least time from a take to the next release of CLK (000).
     pub const BETWEEN_BYTES: u32 = 100;
-    // Silence this long after the letting go means an end mark; a CLK pull before it means none (003).
+    // A gap this long after the letting go means an end mark; a CLK pull before it means none (003).
     pub const END_MARK: u32 = 200;
     // The latest start of the acknowledgement after the letting go (H).
     pub const END_MARK_LATEST: u32 = 290;

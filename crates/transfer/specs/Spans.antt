@@ -1,0 +1,18 @@
+-- Ticks in spans of equal lines, as the steps of a recording show them.
+use Prim.Native.Nat.{ℕ}
+use mathlib.Core.List.{List, [], _∷_, _++_}
+use lib.ListN.{replicate}
+use Rattle.transfer.specs.declared.lines.Lines.{Lines}
+
+-- So many ticks that show the same lines.
+pub record Span : Type 0 where
+  pub duration : ℕ
+  pub lines : Lines
+
+abbrev pub spanTicks : Span → List Lines
+spanTicks s = replicate (s .duration) (s .lines)
+
+-- The tick list that spans mean.
+abbrev pub ticks : List Span → List Lines
+ticks [] = []
+ticks (s ∷ spans) = spanTicks s ++ ticks spans
