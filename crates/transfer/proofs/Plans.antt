@@ -36,6 +36,14 @@ handover-is zero zero (suc k) zero (suc n) js a b = ap (λ x. clockHeld ∷ x) (
 handover-is zero zero zero u (suc n) js a b = absurd (omega arith)
 handover-is zero zero zero u zero js a b = refl
 
+-- A set-up tick, further ones, valid ticks and the rest, joined.
+bit-splits : (d : Bool) (pulled : List Bool) (c : Bool) (n : ℕ) {js after-first after-pulled after-valid rest : List Pulls}
+    → js ≡ sets d ∷ after-first → after-first ≡ map sets pulled ++ after-pulled
+    → after-pulled ≡ replicate n (offers c) ++ after-valid → after-valid ≡ rest
+    → js ≡ sets d ∷ (map sets pulled ++ (replicate n (offers c) ++ rest))
+bit-splits d pulled c n p q r s =
+    p ∙ ap (λ x. sets d ∷ x) (q ∙ ap (λ x. map sets pulled ++ x) (r ∙ ap (λ x. replicate n (offers c) ++ x) s))
+
 module _ (L : Limits) where
   -- A handover that begins at tick e, as a frame has it.
   record HandoverPlan (mark bit8 : Bool) (value e : ℕ) (js : List Pulls) (l : List Byte) : Type 0 where
@@ -174,11 +182,7 @@ module _ (L : Limits) where
           till = r .till;
           rest = r .rest;
           ends = omega (arith, r .ends, o .ends, s .ends);
-          is =
-              f .splits
-              ∙ ap (λ x. sets d ∷ x)
-              (s .splits
-              ∙ ap (λ x. map sets (s .pulled) ++ x) (o .splits ∙ ap (λ x. replicate (o .count) (offers c) ++ x) (r .is)));
+          is = bit-splits d (s .pulled) c (o .count) {rest = bitsTrack (r .bits) (r .rest)} (f .splits) (s .splits) (o .splits) (r .is);
           after = r .after;
         }
 
