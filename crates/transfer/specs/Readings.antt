@@ -1,4 +1,5 @@
--- Where two rows of document 01 meet: tick lists whose outcomes show how it is read there. docs/DECISIONS.md gives the reasons.
+-- Where two rows of document 01 meet: tick lists whose outcomes show how it is read there, and on which tick each time falls.
+-- docs/DECISIONS.md gives the reasons.
 use Prim.Native.Nat.{ℕ, _+_}
 use mathlib.Core.Path.{_≡_}
 use mathlib.Core.List.{List, [], _∷_, _++_}
@@ -60,8 +61,9 @@ readings =
     ∷ reads (opening 220 80 ++ (70 ∶ 6 ∷ 201 ∶ 4 ∷ [])) 34 860 0
     -- A 201st valid tick in which DATA moved: 33, whose row is the earlier one.
     ∷ reads (opening 220 80 ++ (70 ∶ 6 ∷ 200 ∶ 4 ∷ 1 ∶ 0 ∷ [])) 33 860 0
-    -- A CLK pull after 19 valid ticks: 32, also with DATA moved in the same tick, and after bit 8.
+    -- A CLK pull after 19 valid ticks, not after 20: 32, also with DATA moved in the same tick, and after bit 8.
     ∷ reads (opening 220 80 ++ (70 ∶ 6 ∷ 19 ∶ 4 ∷ 1 ∶ 2 ∷ [])) 32 679 0
+    ∷ reads (opening 220 80 ++ (70 ∶ 6 ∷ 20 ∶ 4 ∷ 1 ∶ 2 ∷ [])) 22 681 0
     ∷ reads (opening 220 80 ++ (bits (0 ∷ 0 ∷ 0 ∷ 0 ∷ 0 ∷ 0 ∷ 0 ∷ []) ++ (70 ∶ 2 ∷ 19 ∶ 0 ∷ 1 ∶ 6 ∷ []))) 32 1589 0
     -- Carried: DATA released with CLK is 26 and not 36.
     ∷ reads (till80 ++ (50 ∶ 6 ∷ 1 ∶ 0 ∷ [])) 26 1680 0
@@ -71,9 +73,11 @@ readings =
     ∷ reads (till80 ++ (100 ∶ 6 ∷ 901 ∶ 2 ∷ [])) 35 2630 0
     -- Open at offset 1,000: CLK released is 26 and not 35.
     ∷ reads (till41 ++ (1000 ∶ 2 ∷ 1 ∶ 4 ∷ [])) 26 2630 0
-    -- B, too soon: both released is 26; 36 is for (0,1) alone, and the byte is not counted. The first B has no such time.
+    -- B, too soon: both released is 26; 36 is for (0,1) alone, 99 ticks after the take and not 100, and the byte is not counted.
+    -- The first B has no such time.
     ∷ reads (till41 ++ (30 ∶ 2 ∷ 50 ∶ 6 ∷ 1 ∶ 0 ∷ [])) 26 1710 0
-    ∷ reads (till41 ++ (30 ∶ 2 ∷ 50 ∶ 6 ∷ 1 ∶ 4 ∷ [])) 36 1710 0
+    ∷ reads (till41 ++ (30 ∶ 2 ∷ 99 ∶ 6 ∷ 1 ∶ 4 ∷ [])) 36 1759 0
+    ∷ reads (till41 ++ (30 ∶ 2 ∷ 100 ∶ 6 ∷ 1 ∶ 4 ∷ [])) 22 1761 1
     ∷ reads (50 ∶ 6 ∷ 50 ∶ 4 ∷ []) 22 100 0
     -- C: the byte is handed over on entering it, and a fault in it counts the byte.
     ∷ reads (till41 ++ (30 ∶ 2 ∷ 200 ∶ 6 ∷ 50 ∶ 4 ∷ 1 ∶ 2 ∷ [])) 26 1910 1
@@ -84,6 +88,14 @@ readings =
     -- The 512 counts from D's first tick, through the acknowledgement: 21 with no byte handed over, 31 after one.
     ∷ reads (opening 220 80 ++ (300 ∶ 0 ∷ [])) 21 762 0
     ∷ reads (plain41 ++ (30 ∶ 2 ∷ 200 ∶ 6 ∷ 50 ∶ 4 ∷ 220 ∶ 0 ∷ 80 ∶ 4 ∷ 300 ∶ 0 ∷ [])) 31 2142 1
+    -- A's last offset: 24 falls at 256.
+    ∷ reads (257 ∶ 2 ∷ []) 24 256 0
+    -- D: a gap of 199 ticks is none for an end mark, one of 200 is.
+    ∷ reads (opening 199 80) 26 449 0
+    ∷ reads (opening 200 80) 22 570 0
+    -- G: CLK pulled at offset 60 begins the bits, at 61 it is late.
+    ∷ reads (200 ∶ 6 ∷ 50 ∶ 4 ∷ 220 ∶ 0 ∷ 80 ∶ 4 ∷ 60 ∶ 0 ∷ 1 ∶ 6 ∷ []) 22 611 0
+    ∷ reads (200 ∶ 6 ∷ 50 ∶ 4 ∷ 220 ∶ 0 ∷ 80 ∶ 4 ∷ 61 ∶ 0 ∷ 1 ∶ 6 ∷ []) 30 611 0
     -- D's and F's last offsets, and carried's: 27, 29 and 26 fall one tick later than the last that is allowed.
     ∷ reads (200 ∶ 6 ∷ 50 ∶ 4 ∷ 291 ∶ 0 ∷ []) 27 540 0
     ∷ reads (200 ∶ 6 ∷ 50 ∶ 4 ∷ 220 ∶ 0 ∷ 151 ∶ 4 ∷ []) 29 620 0
