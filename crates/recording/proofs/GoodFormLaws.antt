@@ -18,6 +18,11 @@ use Rattle.recording.proofs.Tests.{good-else, good-after, same}
 use Rattle.recording.proofs.StepLaws.{total-counts}
 use Rattle.recording.proofs.PassedLaws.{GoodHeader, header-passed, good-header-passes, step-passed, good-step-passes}
 
+-- What holds at i, and at each of the k places after it, holds at each of the k + 1 places from i on.
+pub each-more : (P : ℕ → Type 0) (i k : ℕ) → P i → ((j : ℕ) → j < k → P (suc i + j)) → (j : ℕ) → j < suc k → P (i + j)
+each-more P i k first later zero h = rw (add-zero i) first
+each-more P i k first later (suc j) h = let z : i + suc j ≡ suc i + j = omega arith in rw z (later j (omega arith))
+
 -- Each of the k steps from step i on passed its test.
 steps-passed : (file : List ℕ) (k i : ℕ) (rest : Form) (n : ℕ) → stepsForm i (stepsFrom file i k) rest ≡ Good n
     → ((j : ℕ) → j < k → GoodStep (stepAt file (i + j))) × (rest ≡ Good n)
@@ -26,12 +31,7 @@ steps-passed file zero i rest n e = (λ j h. absurd (omega arith), e)
 steps-passed file (suc k) i rest n e =
     let first = good-after (stepTest (stepAt file i)) i _ n e in
     let later = steps-passed file k (suc i) rest n (first .1) in
-    (at (step-passed _ (first .0)) (later .0), later .1)
-  where
-    at : GoodStep (stepAt file i) → ((j : ℕ) → j < k → GoodStep (stepAt file (suc i + j)))
-        → (j : ℕ) → j < suc k → GoodStep (stepAt file (i + j))
-    at first later zero h = rw (add-zero i) first
-    at first later (suc j) h = let z : i + suc j ≡ suc i + j = omega arith in rw z (later j (omega arith))
+    (each-more (λ (j : ℕ). GoodStep (stepAt file j)) i k (step-passed _ (first .0)) (later .0), later .1)
 
 is-good : (file : List ℕ) (n : ℕ) → formOf file ≡ Good n → GoodForm file n
 unfolding formOf bodyForm stepsOf ticksOf

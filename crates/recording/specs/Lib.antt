@@ -5,3 +5,4 @@ pub mod Refusals
 pub mod Ticks
 pub mod Form
 pub mod GoodForm
+pub mod FileOf

@@ -2,8 +2,10 @@
 ghost use mathlib.Core.Path.{_≡_};
 ghost use Prim.Native.Nat.{_≤_};
 ghost use lib.ListN.{length};
-ghost use Rattle.recording.specs.Layout.{headerAt, headerSize};
+ghost use lib.Seq.{sets};
+ghost use Rattle.recording.specs.Layout.{headerAt, headerSize, mostSteps};
 ghost use Rattle.recording.specs.Form.{headerTest};
+ghost use Rattle.recording.specs.FileOf.{headerBytes, goodHeader};
 use crate::fields;
 use crate::refusal::Refusal;
 use crate::refusal::Test;
@@ -44,6 +46,32 @@ impl Header {
             total,
             length,
         }
+    }
+
+    // The header of a recording of so many steps and ticks.
+    pub fn good(steps: u16, total: u32) -> Header
+        requires { ⌜ steps ≤ mostSteps ⌝ }
+        ensures { λ r. ⌜ r ≡ goodHeader steps total ⌝ }
+    {
+        let length = Header::SIZE + Step::SIZE * (steps as usize);
+        Header {
+            version: Header::VERSION,
+            steps,
+            offset: Header::SIZE as u32,
+            total,
+            length: length as u32,
+        }
+    }
+
+    pub fn write(self, destination: &mut [u8])
+        requires { ⌜ headerSize ≤ length (now destination) ⌝ }
+        ensures { λ _. ⌜ now (destination .exit) ≡ sets (now (destination .entry)) 0 (headerBytes self) ⌝ }
+    {
+        fields::put_u16(destination, 0, self.version);
+        fields::put_u16(destination, 2, self.steps);
+        fields::put_u32(destination, 4, self.offset);
+        fields::put_u32(destination, 8, self.total);
+        fields::put_u32(destination, 12, self.length);
     }
 
     // Refusals 2 to 5; `size` is the file's true length.

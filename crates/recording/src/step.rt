@@ -2,8 +2,10 @@
 ghost use mathlib.Core.Path.{_≡_};
 ghost use Prim.Native.Nat.{_+_, _≤_};
 ghost use lib.ListN.{length};
+ghost use lib.Seq.{sets};
 ghost use Rattle.recording.specs.Layout.{stepAt, stepPlace, stepSize};
 ghost use Rattle.recording.specs.Form.{stepTest};
+ghost use Rattle.recording.specs.FileOf.{stepBytes};
 use crate::fields;
 use crate::header::Header;
 use crate::refusal::Refusal;
@@ -32,6 +34,16 @@ impl Step {
             lines: file[at + 2],
             last: file[at + 3],
         }
+    }
+
+    pub fn write(self, destination: &mut [u8], index: usize)
+        requires { ⌜ stepPlace index + stepSize ≤ length (now destination) ⌝ }
+        ensures { λ _. ⌜ now (destination .exit) ≡ sets (now (destination .entry)) (stepPlace index) (stepBytes self) ⌝ }
+    {
+        let at = Header::SIZE + Step::SIZE * index;
+        fields::put_u16(destination, at, self.duration);
+        destination[at + 2] = self.lines;
+        destination[at + 3] = self.last;
     }
 
     // Refusals 6 and 7.
