@@ -1,0 +1,94 @@
+-- Demand 3 about a file, from demand 3 over its tick list. Assumes nothing.
+use Prim.Native.Nat.{ℕ, suc, _≤_}
+use mathlib.Core.List.{List, [], _∷_, _++_, map}
+use mathlib.Core.Logic.{_↔_}
+use mathlib.Core.Path.{_≡_, refl, sym, ap, subst, subst⁻¹, _∙_}
+use native.Mathlib.Omega.{arith}
+use lib.ListN.{length, take, drop}
+use lib.Seq.{take-append-seam}
+use Rattle.recording.specs.Ticks.{stepsOf}
+use Rattle.recording.specs.declared.step.Step.{Step}
+use Rattle.recording.proofs.GoodFormLaws.{good-form}
+use Rattle.transfer.specs.Demand3.{Consistent, Explains, Explained, CompleteWith as CompleteTicks}
+use Rattle.transfer.specs.Limits.{standardLimits}
+use Rattle.transfer.specs.Outcome.{Outcome, outcome}
+use Rattle.transfer.specs.Pair.{senderPulls, receiverPulls, values, SameOrLater}
+use Rattle.transfer.specs.Shown.{shown}
+use Rattle.transfer.specs.Verdicts.{verdictNumber}
+use Rattle.transfer.specs.declared.limits.Limits.{Limits}
+use Rattle.transfer.specs.declared.lines.Lines.{Lines}
+use Rattle.transfer.specs.declared.phase.Byte.{Byte}
+use Rattle.transfer.proofs.Demand3.{demand3, standard-consistent}
+use Rattle.transfer.proofs.Facts.{only-complete-is-20}
+use Rattle.judge.specs.Judged.{Judged, tickList, twoTicks, verdictLeft, judged}
+use Rattle.judge.specs.Demand3.{GoodWithRoom, CompleteWith, dated, Demand3}
+use Rattle.judge.proofs.JudgedLaws.{is-verdict}
+use Rattle.judge.proofs.LedgerLists.{length-values, reads-ledger}
+
+-- What is left at a verdict is complete with a string exactly if the tick list is.
+module _ (L : Limits) (w : List Lines) (steps : List Step) (b g : List ℕ) where
+  abbrev verdictOf : Judged
+  verdictOf = verdictLeft steps (outcome L w) b g
+
+  abbrev handed : List Byte
+  handed = outcome L w .bytes
+
+  begins-with : (string : List ℕ) → length handed ≡ length string → take (length string) (verdictOf .bytes) ≡ values handed
+  begins-with string e =
+      ap (λ (n : ℕ). take n (verdictOf .bytes)) (sym (length-values handed ∙ e)) ∙ take-append-seam (values handed) _
+
+  complete-ticks : (string : List ℕ) → CompleteWith verdictOf string → CompleteTicks L w string
+  complete-ticks string c =
+      record {
+        verdict = only-complete-is-20 _ (c .number);
+        bytes = sym (begins-with string (c .count)) ∙ c .begins;
+      }
+
+  complete-file : (string : List ℕ) → CompleteTicks L w string → CompleteWith verdictOf string
+  complete-file string c =
+      let count : length handed ≡ length string = sym (length-values handed) ∙ ap length (c .bytes) in
+      record {
+        number = ap verdictNumber (c .verdict);
+        count = count;
+        begins = begins-with string count ∙ c .bytes;
+      }
+
+  -- The ledger's bytes are those that were handed over.
+  dated-handed : (string : List ℕ) → CompleteTicks L w string → handed ≡ dated string (verdictOf .ledger)
+  dated-handed string c = sym (reads-ledger handed _) ∙ ap (λ (v : List ℕ). dated v (verdictOf .ledger)) (c .bytes)
+
+module _ (L : Limits) (times : Consistent L) (file b g : List ℕ) where
+  abbrev w : List Lines
+  w = tickList file
+
+  at-verdict : Demand3 L file (verdictLeft (stepsOf file) (outcome L (tickList file)) b g)
+  at-verdict =
+      let ticks = demand3 L times (tickList file) in
+      let steps = stepsOf file in
+      record {
+        exactly = λ string. (
+          λ c. ticks .exactly string .0 (complete-ticks L w steps b g string c),
+          λ x. complete-file L w steps b g string (ticks .exactly string .1 x),
+        );
+        shown-pair = λ string c.
+            let t = complete-ticks L w steps b g string c in
+            subst (λ (d : List Byte). Explains L w string (map senderPulls (shown d w)) (map receiverPulls (shown d w)) d)
+            (dated-handed L w steps b g string t) (ticks .shown-pair string t);
+        earliest = λ string sender receiver other x.
+            let t = ticks .exactly string .1 (record { sender = sender; receiver = receiver; dated = other; explains = x }) in
+            subst (λ (d : List Byte). SameOrLater d other) (dated-handed L w steps b g string t)
+            (ticks .earliest string sender receiver other x);
+        never = λ none e. ticks .never none (only-complete-is-20 _ e);
+      }
+
+  pub file-demand3 : GoodWithRoom file b g → Demand3 L file (judged L file b g)
+  file-demand3 good =
+      subst⁻¹ (Demand3 L file)
+      (is-verdict L file b g (good .steps) (good-form file (good .steps) .1 (good .good-form)) (good .byte-room) (good .ledger-room))
+      at-verdict
+
+-- Both clauses of the judge's promise, from the first.
+pub promised : (file b g : List ℕ) (j : Judged) → j ≡ judged standardLimits file b g
+    → (j ≡ judged standardLimits file b g) × (GoodWithRoom file b g → Demand3 standardLimits file j)
+promised file b g j e =
+    (e, λ good. subst⁻¹ (Demand3 standardLimits file) e (file-demand3 standardLimits standard-consistent file b g good))

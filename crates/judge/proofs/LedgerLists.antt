@@ -1,0 +1,25 @@
+-- Bytes handed over, as the values and the ticks that the lent buffers begin with. Assumes nothing.
+use Prim.Native.Nat.{ℕ, suc, _*_}
+use mathlib.Core.List.{List, [], _∷_, _++_}
+use mathlib.Core.Path.{_≡_, refl, ap}
+use native.Mathlib.Omega.{arith}
+use lib.ListN.{length}
+use Rattle.transfer.specs.Pair.{values}
+use Rattle.transfer.specs.declared.phase.Byte.{Byte}
+use Rattle.judge.specs.Judged.{twoTicks}
+use Rattle.judge.specs.Demand3.{dated}
+
+-- The bytes handed over are read off the byte buffer and the ledger.
+pub reads-ledger : (h : List Byte) (rest : List ℕ) → dated (values h) (twoTicks h ++ rest) ≡ h
+unfolding twoTicks
+reads-ledger [] rest = refl
+reads-ledger (b ∷ h) rest = ap (λ (l : List Byte). b ∷ l) (reads-ledger h rest)
+
+pub length-values : (h : List Byte) → length (values h) ≡ length h
+length-values [] = refl
+length-values (b ∷ h) = ap suc (length-values h)
+
+pub length-twoTicks : (h : List Byte) → length (twoTicks h) ≡ 2 * length h
+unfolding twoTicks
+length-twoTicks [] = refl
+length-twoTicks (b ∷ h) = let rest = length-twoTicks h in omega arith

@@ -1,0 +1,134 @@
+-- The laws by which the two loops of a reading go, and what both keep. Assumes nothing.
+use Prim.Native.Nat.{ℕ, _*_, _<_, _≤_}
+use mathlib.Core.List.{List, [], _∷_, _++_}
+use mathlib.Core.Bool.{true}
+use mathlib.Core.Path.{_≡_, refl, sym, ap, ap₂, subst, _∙_}
+use native.Mathlib.Omega.{arith}
+use lib.ListN.{length}
+use lib.Seq.{sets}
+use Rattle.transfer.specs.Outcome.{stateAfter, handedIn, handedOver}
+use Rattle.transfer.specs.Pair.{values}
+use Rattle.transfer.specs.TickLaws.{OneTick}
+use Rattle.transfer.specs.States.{firstState, nextState, isDecided}
+use Rattle.transfer.specs.declared.limits.Limits.{Limits}
+use Rattle.transfer.specs.declared.lines.Lines.{Lines}
+use Rattle.transfer.specs.declared.phase.Byte.{Byte}
+use Rattle.transfer.specs.declared.state.State.{State}
+use Rattle.transfer.proofs.TickLaws.{one-tick, counts, stands}
+use Rattle.judge.specs.Judged.{byteRoom, ledgerRoom, twoTicks}
+use Rattle.judge.specs.Reading.{withByte, withTicks, Reached, reached, readInto}
+use Rattle.judge.proofs.LedgerLists.{length-values, length-twoTicks}
+use Rattle.judge.proofs.HandedLists.{stored-first, byte-stored, ticks-stored}
+use Rattle.judge.proofs.HandedLists.{byte-keeps-length, ticks-keep-length}
+
+module _ (L : Limits) where
+  -- What a reading comes to that has ticks w still before it: the bytes they hand over are stored after those that stand there.
+  unfoldable pub comesTo : (s : State) (bytes ledger : List ℕ) → List Lines → Reached
+  comesTo s bytes ledger w =
+      let handed = handedOver L s w in
+      reached (stateAfter L s w) (sets bytes (s .count) (values handed)) (sets ledger (2 * s .count) (twoTicks handed))
+
+  -- What both loops keep: t ticks or fewer are behind, w is before, and the reading comes to the whole. The buffers are as long as they
+  -- were, and all bytes that are still handed over have their places.
+  pub record Keeps (whole : Reached) (bytes₀ ledger₀ : List ℕ) (t : ℕ) (w : List Lines) (s : State) (bytes ledger : List ℕ) : Type 0 where
+    pub comes : whole ≡ comesTo s bytes ledger w
+    pub tick : s .tick ≤ t
+    pub few : stateAfter L s w .count < byteRoom
+    pub byte-places : length bytes ≡ length bytes₀
+    pub ledger-places : length ledger ≡ length ledger₀
+
+  stored : (s t : State) (bytes ledger : List ℕ) (x : Lines) (w : List Lines) → t ≡ nextState L s x
+      → comesTo s bytes ledger (x ∷ w) ≡ comesTo t (withByte bytes s t) (withTicks ledger s t) w
+  unfolding comesTo stateAfter handedOver
+  stored s t bytes ledger x w e =
+      let rest = handedOver L t w in
+      let one = subst (λ (u : State). OneTick s u) (sym e) (one-tick L s x) in
+      ap (λ (u : State). reached (stateAfter L u w) (sets bytes (s .count) (values (handedIn s u ++ handedOver L u w)))
+      (sets ledger (2 * s .count) (twoTicks (handedIn s u ++ handedOver L u w)))) (sym e)
+      ∙ ap₂ (λ (b g : List ℕ). reached (stateAfter L t w) b g) (byte-stored s t rest one bytes _ refl)
+      (ticks-stored s t rest one ledger _ refl)
+
+  -- A tick is read.
+  pub tick-read : (whole : Reached) (b₀ g₀ : List ℕ) (n m : ℕ) (x : Lines) (w w′ : List Lines) (s t : State) (b b′ g g′ : List ℕ)
+      → Keeps whole b₀ g₀ n w s b g → n < m → w ≡ x ∷ w′ → t ≡ nextState L s x → b′ ≡ withByte b s t → g′ ≡ withTicks g s t
+      → Keeps whole b₀ g₀ m w′ t b′ g′
+  unfolding stateAfter
+  tick-read whole b₀ g₀ n m x w w′ s t b b′ g g′ k h ew et eb eg =
+      let one = one-tick L s x in
+      record {
+        comes = k .comes ∙ ap (comesTo s b g) ew ∙ stored s t b g x w′ et ∙ ap₂ (λ (u v : List ℕ). comesTo t u v w′) (sym eb) (sym eg);
+        tick = subst (λ (u : State). u .tick ≤ m) (sym et) (omega (arith, one .tick-most, k .tick));
+        few = subst (λ (u : State). stateAfter L u w′ .count < byteRoom) (sym et)
+            (subst (λ v. stateAfter L s v .count < byteRoom) ew (k .few));
+        byte-places = byte-keeps-length b b′ s t eb ∙ k .byte-places;
+        ledger-places = ticks-keep-length g g′ s t eg ∙ k .ledger-places;
+      }
+
+  -- A step begins: from here on the reading comes to the same.
+  pub step-begins : (whole : Reached) (b₀ g₀ : List ℕ) (n m : ℕ) (w w′ w″ : List Lines) (s : State) (b g : List ℕ)
+      → Keeps whole b₀ g₀ n w s b g → n ≤ m → w ≡ w′ → w″ ≡ w′ → Keeps (comesTo s b g w′) b g m w″ s b g
+  step-begins whole b₀ g₀ n m w w′ w″ s b g k h e e″ =
+      record {
+        comes = ap (comesTo s b g) (sym e″);
+        tick = omega (arith, k .tick);
+        few = subst (λ v. stateAfter L s v .count < byteRoom) (e ∙ sym e″) (k .few);
+        byte-places = refl;
+        ledger-places = refl;
+      }
+
+  -- A step ends: what its own loop kept goes on for the outer one.
+  pub step-ends : (whole : Reached) (b₀ g₀ : List ℕ) (n m l : ℕ) (w w′ v v′ : List Lines) (s t : State) (b b′ g g′ : List ℕ)
+      → Keeps whole b₀ g₀ n w s b g → w ≡ w′ → Keeps (comesTo s b g w′) b g m v t b′ g′ → v ≡ v′ → m ≤ l
+      → Keeps whole b₀ g₀ l v′ t b′ g′
+  step-ends whole b₀ g₀ n m l w w′ v v′ s t b b′ g g′ k e i f h =
+      record {
+        comes = k .comes ∙ ap (comesTo s b g) e ∙ i .comes ∙ ap (comesTo t b′ g′) f;
+        tick = omega (arith, i .tick);
+        few = subst (λ u. stateAfter L t u .count < byteRoom) f (i .few);
+        byte-places = i .byte-places ∙ k .byte-places;
+        ledger-places = i .ledger-places ∙ k .ledger-places;
+      }
+
+  -- The recording ends.
+  pub reading-ends : (whole : Reached) (b₀ g₀ : List ℕ) (n : ℕ) (w : List Lines) (s : State) (b g : List ℕ)
+      → Keeps whole b₀ g₀ n w s b g → w ≡ [] → whole ≡ reached s b g
+  unfolding comesTo stateAfter handedOver twoTicks
+  reading-ends whole b₀ g₀ n w s b g k e = k .comes ∙ ap (comesTo s b g) e
+
+  -- A verdict stands, whatever ticks follow.
+  pub verdict-stands : (whole : Reached) (b₀ g₀ : List ℕ) (n : ℕ) (w : List Lines) (s : State) (b g : List ℕ)
+      → Keeps whole b₀ g₀ n w s b g → isDecided (s .phase) ≡ true → whole ≡ reached s b g
+  unfolding comesTo twoTicks
+  verdict-stands whole b₀ g₀ n w s b g k e =
+      let same = stands L s w e in
+      k .comes
+      ∙ ap₂ (λ (u : State) (h : List Byte). reached u (sets b (s .count) (values h)) (sets g (2 * s .count) (twoTicks h)))
+      (same .state) (same .bytes)
+
+  -- No byte is handed over that has no place.
+  pub has-place : (s : State) (w : List Lines) → stateAfter L s w .count < byteRoom → s .count < byteRoom
+  has-place s w h = omega (arith, counts L w s)
+
+  -- The beginning: all ticks are before.
+  pub reading-begins : (s : State) (b g : List ℕ) (w w′ : List Lines) → s ≡ firstState → w′ ≡ w
+      → length (handedOver L firstState w) < byteRoom → Keeps (comesTo s b g w) b g 0 w′ s b g
+  reading-begins s b g w w′ e all few =
+      subst (λ (u : State). Keeps (comesTo u b g w) b g 0 w′ u b g) (sym e)
+      (record {
+        comes = ap (comesTo firstState b g) (sym all);
+        tick = omega arith;
+        few = subst (λ v. stateAfter L firstState v .count < byteRoom) (sym all) (omega (arith, counts L w firstState));
+        byte-places = refl;
+        ledger-places = refl;
+      })
+
+  -- The whole reading.
+  pub reading-is : (s : State) (b g : List ℕ) (w : List Lines) → s ≡ firstState → length (handedOver L firstState w) < byteRoom
+      → byteRoom ≤ length b → ledgerRoom ≤ length g → comesTo s b g w ≡ readInto L w b g
+  unfolding comesTo readInto
+  reading-is s b g w e few hb hg =
+      let h = handedOver L firstState w in
+      ap (λ (u : State). comesTo u b g w) e
+      ∙ ap₂ (λ (u v : List ℕ). reached (stateAfter L firstState w) u v)
+      (stored-first (values h) b (omega (arith, length-values h)))
+      (stored-first (twoTicks h) g (omega (arith, length-twoTicks h)))

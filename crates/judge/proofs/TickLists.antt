@@ -1,0 +1,75 @@
+-- The ticks of a recording's steps as lines: by one step, in spans, and how many bytes they hand over. Assumes nothing.
+use Prim.Native.Nat.{ℕ, zero, suc, _+_, _-_, _<_, _≤_}
+use mathlib.Core.List.{List, [], _∷_, _++_, map, map-append}
+use mathlib.Core.Path.{_≡_, refl, sym, ap, ap₂, subst, _∙_}
+use native.Mathlib.Nat.{sub-zero}
+use native.Mathlib.Omega.{arith}
+use lib.ListN.{length, replicate}
+use Rattle.recording.specs.Layout.{mostSteps, headerAt, stepAt}
+use Rattle.recording.specs.Ticks.{stepsFrom, ticks, ticksOf}
+use Rattle.recording.specs.declared.step.Step.{Step}
+use Rattle.recording.proofs.StepLaws.{ticks-begin, ticks-end}
+use Rattle.transfer.specs.Lines.{linesOf}
+use Rattle.transfer.specs.Outcome.{handedOver, outcome}
+use Rattle.transfer.specs.Spans.{Span, ticks as spanned}
+use Rattle.transfer.specs.States.{firstState}
+use Rattle.transfer.specs.declared.limits.Limits.{Limits}
+use Rattle.transfer.specs.declared.lines.Lines.{Lines}
+use Rattle.transfer.proofs.Room.{room}
+use Rattle.judge.specs.Judged.{byteRoom}
+use Rattle.judge.specs.Reading.{ticksFrom}
+
+map-replicate : (n byte : ℕ) → map linesOf (replicate n byte) ≡ replicate n (linesOf byte)
+map-replicate zero byte = refl
+map-replicate (suc n) byte = ap (λ w. linesOf byte ∷ w) (map-replicate n byte)
+
+-- A step's ticks, and then the others'.
+step-lines : (s : Step) (rest : List ℕ)
+    → map linesOf (replicate (s .duration) (s .lines) ++ rest) ≡ replicate (s .duration) (linesOf (s .lines)) ++ map linesOf rest
+step-lines s rest =
+    map-append linesOf (replicate (s .duration) (s .lines)) rest
+    ∙ ap (λ w. w ++ map linesOf rest) (map-replicate (s .duration) (s .lines))
+
+-- Step i is left; s is what was read there, and x what its ticks show.
+pub step-left : (file : List ℕ) (i n : ℕ) (s : Step) (x : Lines) → s ≡ stepAt file i → x ≡ linesOf (s .lines) → i < n
+    → ticksFrom file i (n - i) ≡ replicate (s .duration) x ++ ticksFrom file (i + 1) (n - (i + 1))
+step-left file i n s x es ex h =
+    ap (map linesOf) (ticks-begin file i n s es h)
+    ∙ step-lines s (ticks (stepsFrom file (i + 1) (n - (i + 1))))
+    ∙ ap (λ (l : Lines). replicate (s .duration) l ++ ticksFrom file (i + 1) (n - (i + 1))) (sym ex)
+
+pub all-left : (file : List ℕ) (n : ℕ) → ticksFrom file 0 (n - 0) ≡ ticksFrom file 0 n
+all-left file n = rw (sub-zero n)
+
+pub none-left : (file : List ℕ) (i n : ℕ) → n ≤ i → ticksFrom file i (n - i) ≡ []
+none-left file i n h = ap (map linesOf) (ticks-end file i n h)
+
+-- Ticks of a step that are left.
+pub tick-left : (x : Lines) (j d : ℕ) (rest : List Lines) → j < d
+    → replicate (d - j) x ++ rest ≡ x ∷ (replicate (d - (j + 1)) x ++ rest)
+tick-left x j d rest h = let z : d - j ≡ suc (d - (j + 1)) = omega arith in rw z
+
+pub no-tick-left : (x : Lines) (j d : ℕ) (rest : List Lines) → d ≤ j → replicate (d - j) x ++ rest ≡ rest
+no-tick-left x j d rest h = let z : d - j ≡ 0 = omega arith in rw z
+
+-- Steps as spans.
+abbrev span : Step → Span
+span s = record { duration = s .duration; lines = linesOf (s .lines) }
+
+in-spans : (steps : List Step) → map linesOf (ticks steps) ≡ spanned (map span steps)
+unfolding ticks
+in-spans [] = refl
+in-spans (s ∷ steps) = step-lines s (ticks steps) ∙ ap (λ w. replicate (s .duration) (linesOf (s .lines)) ++ w) (in-spans steps)
+
+span-count : (file : List ℕ) (n i : ℕ) → length (map span (stepsFrom file i n)) ≡ n
+unfolding stepsFrom
+span-count file zero i = refl
+span-count file (suc n) i = ap suc (span-count file n (suc i))
+
+-- By the room law: the places that are lent suffice.
+pub few-handed : (L : Limits) (file : List ℕ) (n : ℕ) → n ≤ mostSteps → length (handedOver L firstState (ticksFrom file 0 n)) < byteRoom
+unfolding outcome
+few-handed L file n h =
+    let spans = map span (stepsFrom file 0 n) in
+    subst (λ w. length (handedOver L firstState w) < byteRoom) (sym (in-spans (stepsFrom file 0 n)))
+    (room L spans .few (omega (arith, span-count file n 0)))

@@ -1,0 +1,26 @@
+-- `answer` meets its contract. Assumes nothing.
+use borrow.Author.Needs.{needs}
+use Rattle.judge.proofs.ReadVerdicts.{state-answer}
+use Rattle.judge.proofs.answers.answer.Statement.{statement}
+use Rattle.judge.proofs.answers.answer.Tie as tie
+
+decision-requires : tie.Need-decision-requires
+decision-requires c κs = search needs
+
+step-holding-requires : tie.Need-step-holding-requires
+step-holding-requires c κs = search needs
+
+number-requires : tie.Need-number-requires
+number-requires c κs = search needs
+
+returns : tie.Need-returns
+returns c =
+    let holding = c .before in
+    let decided = holding .before in
+    let d = decided .decision in
+    let h = holding .step-holding in
+    state-answer _ (decided .before .before .args .state) (d .result) (h .result) (c .number .result) (d .ensures) (h .ensures)
+    (c .number .ensures)
+
+pub answer-spec : {M : Type 1} → statement M
+answer-spec = tie.close (tie.spec decision-requires step-holding-requires number-requires returns)

@@ -1,0 +1,117 @@
+-- `judge` meets its contract: the first clause case by case, the second from it. Assumes nothing.
+use mathlib.Core.Path.{sym, ap, _∙_}
+use native.Mathlib.Omega.{arith}
+use borrow.Author.Needs.{needs}
+use Rattle.recording.proofs.GoodFormLaws.{good-form}
+use Rattle.answer.specs.Answers.{refused}
+use Rattle.judge.specs.Judged.{left}
+use Rattle.judge.proofs.JudgedLaws.{is-refused, few-places, few-ledger-places}
+use Rattle.judge.proofs.ReadVerdicts.{is-read}
+use Rattle.judge.proofs.Demand3.{promised}
+use Rattle.judge.proofs.entry.judge.Statement.{statement}
+use Rattle.judge.proofs.entry.judge.Tie as tie
+
+check-form-requires : tie.Need-check-form-requires
+check-form-requires c κs = search needs
+
+enum-known-form : tie.Need-enum-known-form
+enum-known-form c = search needs
+
+number-requires : tie.Need-number-requires
+number-requires c κs = search needs
+
+refused-requires : tie.Need-refused-requires
+refused-requires c κs = search needs
+
+enum-known-form-2 : tie.Need-enum-known-form-2
+enum-known-form-2 c = search needs
+
+refused-requires-2 : tie.Need-refused-requires-2
+refused-requires-2 c κs = search needs
+
+returns : tie.Need-returns
+returns c =
+    let known = c .before .before .before in
+    let call = known .before .before .before .before .before .before in
+    let good = sym (known .before .before .check-form .ensures) ∙ known .form2 .given .1 in
+    promised _ _ _ _ (ap (λ r. left r (call .args .bytes .now) (call .args .ledger .now)) (c .refused2 .ensures)
+    ∙ sym (few-places _ _ _ _ _ good (c .before .if1 .taken)))
+
+refused-requires-3 : tie.Need-refused-requires-3
+refused-requires-3 c κs = search needs
+
+returns-2 : tie.Need-returns-2
+returns-2 c =
+    let known = c .before .before .before .before in
+    let call = known .before .before .before .before .before .before in
+    let good = sym (known .before .before .check-form .ensures) ∙ known .form2 .given .1 in
+    promised _ _ _ _ (ap (λ r. left r (call .args .bytes .now) (call .args .ledger .now)) (c .refused3 .ensures)
+    ∙ sym (few-ledger-places _ _ _ _ _ good (c .before .before .if1 .left) (c .before .if2 .taken)))
+
+standard-requires : tie.Need-standard-requires
+standard-requires c κs = search needs
+
+read-requires : tie.Need-read-requires
+read-requires c κs =
+    let room = c .before .before .before in
+    let known = room .before .before .before in
+    let good = good-form _ _ .0 (sym (known .before .before .check-form .ensures) ∙ known .form2 .given .1) in
+    record {
+      few = good .few;
+      whole = omega (arith, good .whole);
+      byte-room = room .before .if1 .left;
+      ledger-room = room .if2 .left;
+    }
+
+answer-requires : tie.Need-answer-requires
+answer-requires c κs =
+    let known = c .before .before .before .before .before .before .before .before .before .before .before in
+    let good = good-form _ _ .0 (sym (known .before .before .check-form .ensures) ∙ known .form2 .given .1) in
+    (good .few, omega (arith, good .whole))
+
+returns-3 : tie.Need-returns-3
+returns-3 c =
+    let number = c .before in
+    let known = number .before .before in
+    let call = known .before .before .before .before .before .before in
+    let bad = sym (known .before .before .check-form .ensures) ∙ known .form .given .1 in
+    promised _ _ _ _ (ap (λ r. left r (call .args .bytes .now) (call .args .ledger .now)) (c .refused .ensures
+    ∙ ap (λ n. refused n (known .form .given .0 .1 .0)) (number .number .ensures))
+    ∙ sym (is-refused _ _ _ _ _ _ bad))
+
+same-length : tie.Need-same-length
+same-length c = search needs
+
+same-length-2 : tie.Need-same-length-2
+same-length-2 c = search needs
+
+returns-4 : tie.Need-returns-4
+returns-4 c =
+    let read = c .before .before .before .before .before in
+    let times = read .before .before .before in
+    let room = times .before in
+    let known = room .before .before .before in
+    let good = sym (known .before .before .check-form .ensures) ∙ known .form2 .given .1 in
+    promised _ _ _ _ (is-read _ _ _ _ _ good (room .before .if1 .left) (room .if2 .left) (times .standard .result) (read .read .result)
+    _ _ _ (times .standard .ensures) (read .read .ensures) (c .answer .ensures))
+
+pub judge-spec : {M : Type 1} → statement M
+judge-spec =
+    tie.close
+    (tie.spec
+    check-form-requires
+    enum-known-form
+    number-requires
+    refused-requires
+    enum-known-form-2
+    refused-requires-2
+    returns
+    refused-requires-3
+    returns-2
+    standard-requires
+    read-requires
+    answer-requires
+    returns-3
+    same-length
+    same-length-2
+    returns-4)

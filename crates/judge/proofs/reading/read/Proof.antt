@@ -1,0 +1,224 @@
+-- `read` meets its contract. Both loops keep that the reading, from where it stands, comes to the whole. Assumes nothing.
+use Prim.Native.Nat.{_≤_, _<_, _+_, _*_, _-_}
+use mathlib.Core.List.{_++_}
+use mathlib.Core.Path.{refl, sym, _∙_}
+use native.Mathlib.Nat.{sub-zero}
+use native.Mathlib.Omega.{arith}
+use borrow.Author.Needs.{needs}
+use lib.ListN.{replicate}
+use Rattle.recording.specs.Layout.{longestDuration}
+use Rattle.judge.specs.Reading.{ticksFrom}
+use Rattle.judge.proofs.HandedLists.{byte-keeps-length, ticks-keep-length}
+use Rattle.judge.proofs.TickLists.{step-left, all-left, none-left, tick-left, no-tick-left, few-handed}
+use Rattle.judge.proofs.ReadingLaws.{comesTo, Keeps, tick-read, step-begins, step-ends, reading-ends, verdict-stands}
+use Rattle.judge.proofs.ReadingLaws.{has-place, reading-begins, reading-is}
+use Rattle.judge.proofs.reading.read.Statement.{statement}
+use Rattle.judge.proofs.reading.read.Tie as tie
+
+abbrev Inv-loop : tie.InvT-loop
+Inv-loop file steps limits bytes₀ ledger₀ state₀ index lines duration passed₀ bytes ledger state passed =
+    let rest = ticksFrom file (index + 1) (steps - (index + 1)) in
+    (passed ≤ duration)
+    × (duration ≤ longestDuration)
+    × (index < steps)
+    × Keeps limits (comesTo limits state₀ bytes₀ ledger₀ (replicate duration lines ++ rest)) bytes₀ ledger₀
+    (longestDuration * index + passed) (replicate (duration - passed) lines ++ rest) state bytes ledger
+
+abbrev μ-loop : tie.MeasureT-loop
+μ-loop file steps limits bytes₀ ledger₀ state₀ index lines duration passed₀ bytes ledger state passed = duration - passed
+
+abbrev Inv-steps : tie.InvT-steps
+Inv-steps file steps limits bytes₀ ledger₀ state₀ index₀ bytes ledger state index =
+    (index ≤ steps)
+    × Keeps limits (comesTo limits state₀ bytes₀ ledger₀ (ticksFrom file 0 steps)) bytes₀ ledger₀ (longestDuration * index)
+    (ticksFrom file index (steps - index)) state bytes ledger
+
+abbrev μ-steps : tie.MeasureT-steps
+μ-steps file steps limits bytes₀ ledger₀ state₀ index₀ bytes ledger state index = steps - index
+
+new-requires : tie.Need-new-requires Inv-loop μ-loop Inv-steps μ-steps
+new-requires c κs = search needs
+
+steps-holds : tie.Need-steps-holds Inv-loop μ-loop Inv-steps μ-steps
+steps-holds c =
+    let a = c .before .before .before .before in
+    let few = few-handed (a .args .limits) (a .args .file .now) (a .args .steps) (a .pre .few) in
+    (search needs, reading-begins (a .args .limits) _ _ _ _ _ (c .new .ensures) (all-left _ _) few)
+
+read-requires : tie.Need-read-requires Inv-loop μ-loop Inv-steps μ-steps
+read-requires c κs = search needs
+
+of-byte-requires : tie.Need-of-byte-requires Inv-loop μ-loop Inv-steps μ-steps
+of-byte-requires c κs = search needs
+
+loop-holds : tie.Need-loop-holds Inv-loop μ-loop Inv-steps μ-steps
+loop-holds c =
+    let step = c .before in
+    let outer = step .before .before in
+    let call = outer .before .before .before .before .before in
+    let s = step .read in
+    let here = step-left (call .args .file .now) _ _ (s .result) _ (s .ensures) (c .of-byte .ensures) (step .before .steps-test .taken) in (
+      search needs,
+      search needs,
+      search needs,
+      step-begins (call .args .limits) _ _ _ _ _ _ _ _ _ _ _ (outer .steps .inv .1) (omega arith) here (rw sub-zero),
+    )
+
+next-requires : tie.Need-next-requires Inv-loop μ-loop Inv-steps μ-steps
+next-requires c κs =
+    let inner = c .before in
+    let call = inner .before .before .before .before .before .before .before .before .before in
+    let k = inner .loop .inv in
+    let place = has-place (call .args .limits) (inner .loop .state) _ (k .3 .few) in
+    record {
+      tick = omega (arith, k .3 .tick, k .0, k .1, k .2, call .pre .few);
+      count = omega (arith, place);
+    }
+
+put-byte-requires : tie.Need-put-byte-requires Inv-loop μ-loop Inv-steps μ-steps
+put-byte-requires c κs =
+    let inner = c .before .before .before in
+    let outer = inner .before .before .before .before in
+    let call = outer .before .before .before .before .before in
+    let k = inner .loop .inv .3 in
+    let place = has-place (call .args .limits) (inner .loop .state) _ (k .few) in
+    omega (arith, place, k .byte-places, outer .steps .inv .1 .byte-places, call .pre .byte-room)
+
+put-ticks-requires : tie.Need-put-ticks-requires Inv-loop μ-loop Inv-steps μ-steps
+put-ticks-requires c κs =
+    let inner = c .before .before .before .before .before .before .before in
+    let outer = inner .before .before .before .before in
+    let call = outer .before .before .before .before .before in
+    let k = inner .loop .inv .3 in
+    let place = has-place (call .args .limits) (inner .loop .state) _ (k .few) in
+    omega (arith, place, k .ledger-places, outer .steps .inv .1 .ledger-places, call .pre .ledger-room)
+
+is-decided-requires : tie.Need-is-decided-requires Inv-loop μ-loop Inv-steps μ-steps
+is-decided-requires c κs = search needs
+
+add-passed : tie.Need-add-passed Inv-loop μ-loop Inv-steps μ-steps
+add-passed c = search needs
+
+loop-less : tie.Need-loop-less Inv-loop μ-loop Inv-steps μ-steps
+loop-less c = search needs
+
+loop-again : tie.Need-loop-again Inv-loop μ-loop Inv-steps μ-steps
+loop-again c =
+    let ticks = c .before .before .before .before in
+    let byte = ticks .before .before .before .before in
+    let next = byte .before .before in
+    let inner = next .before .before in
+    let outer = inner .before .before .before .before in
+    let call = outer .before .before .before .before .before in
+    let k = inner .loop .inv in
+    let left = tick-left _ _ _ _ (next .before .loop-test .taken) in (
+      search needs,
+      k .1,
+      k .2,
+      tick-read (call .args .limits) _ _ _ _ _ _ _ _ _ (next .next .result) _ _ _ _ (k .3) (omega arith) left (next .next .ensures)
+          (byte .put-byte .ensures) (ticks .put-ticks .ensures),
+    )
+
+add-index : tie.Need-add-index Inv-loop μ-loop Inv-steps μ-steps
+add-index c = search needs
+
+steps-less : tie.Need-steps-less Inv-loop μ-loop Inv-steps μ-steps
+steps-less c = search needs
+
+steps-again : tie.Need-steps-again Inv-loop μ-loop Inv-steps μ-steps
+steps-again c =
+    let inner = c .before in
+    let step = inner .before .before in
+    let outer = step .before .before in
+    let call = outer .before .before .before .before .before in
+    let k = inner .loop .inv in
+    let s = step .read in
+    let here = step-left (call .args .file .now) _ _ (s .result) _ (s .ensures) (inner .before .of-byte .ensures) (k .2) in (
+      search needs,
+      step-ends (call .args .limits) _ _ _ _ _ _ _ _ _ _ _ _ _ _ _ _ (outer .steps .inv .1) here (k .3)
+          (no-tick-left _ _ _ _ (c .loop-test .left)) (omega (arith, k .0, k .1)),
+    )
+
+same-length : tie.Need-same-length Inv-loop μ-loop Inv-steps μ-steps
+same-length c = c .before .steps .inv .1 .byte-places
+
+same-length-2 : tie.Need-same-length-2 Inv-loop μ-loop Inv-steps μ-steps
+same-length-2 c = c .before .steps .inv .1 .ledger-places
+
+returns : tie.Need-returns Inv-loop μ-loop Inv-steps μ-steps
+returns c =
+    let o = c .before .steps in
+    let a = c .before .before .before .before .before .before in
+    let few = few-handed (a .args .limits) (a .args .file .now) (a .args .steps) (a .pre .few) in
+    sym (reading-ends (a .args .limits) _ _ _ _ _ _ _ _ (o .inv .1) (none-left (a .args .file .now) _ _ (c .steps-test .left)))
+    ∙ reading-is (a .args .limits) _ _ _ _ (c .before .before .new .ensures) few (a .pre .byte-room) (a .pre .ledger-room)
+
+same-length-3 : tie.Need-same-length-3 Inv-loop μ-loop Inv-steps μ-steps
+same-length-3 c =
+    let byte = c .before .before .before .before .before .before .before .before in
+    let next = byte .before .before in
+    let inner = next .before .before in
+    byte-keeps-length _ _ (inner .loop .state) (next .next .result) (byte .put-byte .ensures)
+    ∙ inner .loop .inv .3 .byte-places
+    ∙ inner .before .before .before .before .steps .inv .1 .byte-places
+
+same-length-4 : tie.Need-same-length-4 Inv-loop μ-loop Inv-steps μ-steps
+same-length-4 c =
+    let ticks = c .before .before .before .before in
+    let next = ticks .before .before .before .before .before .before in
+    let inner = next .before .before in
+    ticks-keep-length _ _ (inner .loop .state) (next .next .result) (ticks .put-ticks .ensures)
+    ∙ inner .loop .inv .3 .ledger-places
+    ∙ inner .before .before .before .before .steps .inv .1 .ledger-places
+
+returns-2 : tie.Need-returns-2 Inv-loop μ-loop Inv-steps μ-steps
+returns-2 c =
+    let ticks = c .before .before .before .before in
+    let byte = ticks .before .before .before .before in
+    let next = byte .before .before in
+    let inner = next .before .before in
+    let step = inner .before .before in
+    let outer = step .before .before in
+    let call = outer .before .before .before .before .before in
+    let L = call .args .limits in
+    let k = inner .loop .inv in
+    let s = step .read in
+    let behind = longestDuration * outer .steps .index + (inner .loop .passed + 1) in
+    let left = tick-left _ _ _ _ (next .before .loop-test .taken) in
+    let on = tick-read L _ _ _ _ behind _ _ _ _ (next .next .result) _ _ _ _ (k .3) (omega arith) left (next .next .ensures)
+    (byte .put-byte .ensures) (ticks .put-ticks .ensures) in
+    let here = step-left (call .args .file .now) _ _ (s .result) _ (s .ensures) (inner .before .of-byte .ensures) (k .2) in
+    let whole = step-ends L _ _ _ _ _ behind _ _ _ _ _ _ _ _ _ _ (outer .steps .inv .1) here on refl (omega arith) in
+    let few = few-handed L (call .args .file .now) (call .args .steps) (call .pre .few) in
+    sym (verdict-stands L _ _ _ _ _ _ _ _ whole (sym (c .before .is-decided .ensures) ∙ c .if1 .taken))
+    ∙ reading-is L _ _ _ _ (outer .before .new .ensures) few (call .pre .byte-room) (call .pre .ledger-room)
+
+pub read-spec : {M : Type 1} → statement M
+read-spec =
+    tie.close
+    (tie.spec
+    Inv-loop
+    μ-loop
+    Inv-steps
+    μ-steps
+    new-requires
+    steps-holds
+    read-requires
+    of-byte-requires
+    loop-holds
+    next-requires
+    put-byte-requires
+    put-ticks-requires
+    is-decided-requires
+    add-passed
+    loop-less
+    loop-again
+    add-index
+    steps-less
+    steps-again
+    same-length
+    same-length-2
+    returns
+    same-length-3
+    same-length-4
+    returns-2)

@@ -1,0 +1,74 @@
+-- What the judge answers and leaves, for any bytes and any lent buffers: document 01, "Numbers and what they leave".
+use Prim.Native.Nat.{ℕ, suc, _-_}
+use mathlib.Core.List.{List, [], _∷_, map}
+use lib.Dec.{ltb}
+use lib.ListN.{length}
+use Rattle.answer.specs.Answers.{refused}
+use Rattle.answer.specs.Lent.{_over_}
+use Rattle.answer.specs.declared.Answer.{Answer}
+use Rattle.recording.specs.Choice.{if_then_else_}
+use Rattle.recording.specs.Form.{formOf}
+use Rattle.recording.specs.Refusals.{refusalNumber}
+use Rattle.recording.specs.Ticks.{stepsOf, ticksOf}
+use Rattle.recording.specs.declared.form.Form.{Form}
+use Rattle.recording.specs.declared.form.Form.the-variants.{Good, Refused}
+use Rattle.recording.specs.declared.step.Step.{Step}
+use Rattle.transfer.specs.Lines.{linesOf}
+use Rattle.transfer.specs.Outcome.{Outcome, outcome}
+use Rattle.transfer.specs.Pair.{values}
+use Rattle.transfer.specs.Verdicts.{verdictNumber}
+use Rattle.transfer.specs.declared.limits.Limits.{Limits}
+use Rattle.transfer.specs.declared.lines.Lines.{Lines}
+use Rattle.transfer.specs.declared.phase.Byte.{Byte}
+use Rattle.transfer.specs.declared.verdict.Decision.{Decision}
+
+-- The answer, and both lent buffers as they are left.
+pub record Judged : Type 0 where
+  pub answer : Answer
+  pub bytes : List ℕ
+  pub ledger : List ℕ
+
+abbrev pub left : Answer → (bytes ledger : List ℕ) → Judged
+left answer bytes ledger = record { answer = answer; bytes = bytes; ledger = ledger }
+
+-- Refusal 9: "byte buffer under 1,000 places, or ledger under 2,000".
+abbrev pub byteRoom : ℕ
+byteRoom = 1000
+
+abbrev pub ledgerRoom : ℕ
+ledgerRoom = 2000
+
+-- The tick list that a recording means: what each of its ticks shows.
+abbrev pub tickList : (file : List ℕ) → List Lines
+tickList file = map linesOf (ticksOf file)
+
+-- "The step holding" a tick. Where no step does, it is the number of steps: "22: total ticks and n".
+unfoldable pub stepHolding : (tick : ℕ) → List Step → ℕ
+stepHolding tick [] = 0
+stepHolding tick (s ∷ steps) = if ltb tick (s .duration) then 0 else suc (stepHolding (tick - s .duration) steps)
+
+-- "A verdict carries the deciding tick and the step holding it .. Its count is the bytes handed over."
+abbrev pub verdictAnswer : List Step → Decision → (count : ℕ) → Answer
+verdictAnswer steps d count =
+    record { number = verdictNumber (d .verdict); tick = d .tick; step = stepHolding (d .tick) steps; count = count }
+
+-- "Two ticks for each byte: sender lets go of DATA, receiver takes it."
+unfoldable pub twoTicks : List Byte → List ℕ
+twoTicks [] = []
+twoTicks (b ∷ bytes) = b .«let_go» ∷ b .take ∷ twoTicks bytes
+
+-- "The byte buffer begins with those; the ledger .. begins with two ticks for each byte .. All further places keep what they held."
+abbrev pub verdictLeft : List Step → Outcome → (bytes ledger : List ℕ) → Judged
+verdictLeft steps o bytes ledger =
+    left (verdictAnswer steps (o .decision) (length (o .bytes))) (values (o .bytes) over bytes) (twoTicks (o .bytes) over ledger)
+
+-- A recording whose form was tested. At a refusal "no lent byte or number changes".
+unfoldable pub judgedInForm : Limits → (file : List ℕ) → Form → (bytes ledger : List ℕ) → Judged
+judgedInForm L file (Refused refusal step) bytes ledger = left (refused (refusalNumber refusal) step) bytes ledger
+judgedInForm L file (Good n) bytes ledger =
+    if ltb (length bytes) byteRoom then left (refused 9 0) bytes ledger else
+    if ltb (length ledger) ledgerRoom then left (refused 9 0) bytes ledger else
+    verdictLeft (stepsOf file) (outcome L (tickList file)) bytes ledger
+
+unfoldable pub judged : Limits → (file bytes ledger : List ℕ) → Judged
+judged L file bytes ledger = judgedInForm L file (formOf file) bytes ledger

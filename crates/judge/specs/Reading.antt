@@ -1,0 +1,58 @@
+-- The reading of a recording as its functions go: what each of them promises to the entry.
+use Prim.Native.Nat.{ℕ, _+_, _*_, _≤_}
+use mathlib.Core.List.{List, map}
+use lib.Dec.{eqb}
+use lib.ListN.{length, set}
+use Rattle.answer.specs.Lent.{_over_}
+use Rattle.answer.specs.declared.Answer.{Answer}
+use Rattle.recording.specs.Choice.{if_then_else_}
+use Rattle.recording.specs.Layout.{mostSteps, fileLength}
+use Rattle.recording.specs.Ticks.{stepsFrom, ticks}
+use Rattle.recording.specs.declared.step.Step.{Step}
+use Rattle.transfer.specs.Lines.{linesOf}
+use Rattle.transfer.specs.Outcome.{stateAfter, handedOver}
+use Rattle.transfer.specs.Pair.{values}
+use Rattle.transfer.specs.States.{firstState, decisionOf}
+use Rattle.transfer.specs.declared.limits.Limits.{Limits}
+use Rattle.transfer.specs.declared.lines.Lines.{Lines}
+use Rattle.transfer.specs.declared.state.State.{State}
+use Rattle.judge.specs.Judged.{byteRoom, ledgerRoom, twoTicks, verdictAnswer}
+
+-- The byte buffer and the ledger after a tick from s to t: the byte that it handed over, if it did, stands at its place.
+abbrev pub withByte : (bytes : List ℕ) (s t : State) → List ℕ
+withByte bytes s t = if eqb (t .count) (s .count) then bytes else set bytes (s .count) (t .handed .value)
+
+abbrev pub withTicks : (ledger : List ℕ) (s t : State) → List ℕ
+withTicks ledger s t =
+    if eqb (t .count) (s .count) then ledger
+    else set (set ledger (2 * s .count) (t .handed .«let_go»)) (2 * s .count + 1) (t .handed .take)
+
+-- A file of n steps can be read, with enough room lent.
+pub record Readable (file : List ℕ) (n : ℕ) (bytes ledger : List ℕ) : Type 0 where
+  pub few : n ≤ mostSteps
+  pub whole : fileLength n ≤ length file
+  pub byte-room : byteRoom ≤ length bytes
+  pub ledger-room : ledgerRoom ≤ length ledger
+
+-- What each tick of the n steps from step i on shows.
+abbrev pub ticksFrom : (file : List ℕ) (i n : ℕ) → List Lines
+ticksFrom file i n = map linesOf (ticks (stepsFrom file i n))
+
+-- A state of the reading, and both lent buffers with it.
+pub record Reached : Type 0 where
+  pub state : State
+  pub bytes : List ℕ
+  pub ledger : List ℕ
+
+abbrev pub reached : State → (bytes ledger : List ℕ) → Reached
+reached s bytes ledger = record { state = s; bytes = bytes; ledger = ledger }
+
+-- A tick list read from tick 0 on into lent buffers.
+unfoldable pub readInto : Limits → List Lines → (bytes ledger : List ℕ) → Reached
+readInto L w bytes ledger =
+    let handed = handedOver L firstState w in
+    reached (stateAfter L firstState w) (values handed over bytes) (twoTicks handed over ledger)
+
+-- The answer where the recording runs out, or a verdict fell, in a state.
+abbrev pub stateAnswer : List Step → State → Answer
+stateAnswer steps s = verdictAnswer steps (decisionOf (s .phase) (s .tick)) (s .count)

@@ -1,0 +1,125 @@
+-- Document 01, "Sample recordings": the starred ones, in its order, each judged as a whole file.
+use Prim.Native.Nat.{ℕ, zero, suc}
+use mathlib.Core.List.{List, [], _∷_, _++_, map}
+use mathlib.Core.Path.{_≡_}
+use lib.ListN.{replicate}
+use Rattle.answer.specs.Lent.{_over_}
+use Rattle.answer.specs.declared.Answer.{Answer}
+use Rattle.recording.specs.FileOf.{fileOf}
+use Rattle.recording.specs.declared.step.Step.{Step}
+use Rattle.transfer.specs.Limits.{standardLimits}
+use Rattle.judge.specs.Judged.{Judged, left, judged}
+
+-- A step, "as duration:lines".
+infix 90 _∶_
+abbrev pub _∶_ : (duration lines : ℕ) → Step
+d ∶ l = record { duration = d; lines = l; last = 0 }
+
+-- "70:2 60:0", so many times.
+abbrev pub zeros : (times : ℕ) → List Step
+zeros zero = []
+zeros (suc times) = 70 ∶ 2 ∷ 60 ∶ 0 ∷ zeros times
+
+-- S1 with other durations: the 220, the 80 and the 40 before the bits, the first valid time, and the last hold.
+abbrev pub s1With : (gap acknowledgement response valid hold : ℕ) → List Step
+s1With gap acknowledgement response valid hold =
+    200 ∶ 6 ∷ 50 ∶ 4 ∷ gap ∶ 0 ∷ acknowledgement ∶ 4 ∷ response ∶ 0 ∷ 70 ∶ 6 ∷ valid ∶ 4
+    ∷ (zeros 5
+    ++ (70 ∶ 6 ∷ 60 ∶ 4 ∷ 70 ∶ 2 ∷ 60 ∶ 0 ∷ 30 ∶ 2 ∷ hold ∶ 6 ∷ 50 ∶ 4 ∷ 100 ∶ 0 ∷ []))
+
+abbrev pub s1 : List Step
+s1 = s1With 220 80 40 60 200
+
+-- "The byte 0x80, the 30:2 step left out", with another last hold.
+abbrev pub s80With : (hold : ℕ) → List Step
+s80With hold =
+    200 ∶ 6 ∷ 50 ∶ 4 ∷ 220 ∶ 0 ∷ 80 ∶ 4 ∷ 40 ∶ 0
+    ∷ (zeros 7 ++ (70 ∶ 6 ∷ 60 ∶ 4 ∷ hold ∶ 6 ∷ 50 ∶ 4 ∷ 100 ∶ 0 ∷ []))
+
+-- The steps of a recording, its answer, and what the two buffers then begin with.
+pub record Sample : Type 0 where
+  pub steps : List Step
+  pub answer : Answer
+  pub bytes : List ℕ
+  pub ledger : List ℕ
+
+-- A sample that hands no byte over, and one that is complete with a byte.
+abbrev pub stops : List Step → (number tick step : ℕ) → Sample
+stops steps number tick step =
+    record { steps = steps; answer = record { number = number; tick = tick; step = step; count = 0 }; bytes = []; ledger = [] }
+
+abbrev pub sends : List Step → (tick step value let-go take : ℕ) → Sample
+sends steps tick step value let-go take =
+    record {
+      steps = steps;
+      answer = record { number = 20; tick = tick; step = step; count = 1 };
+      bytes = value ∷ [];
+      ledger = let-go ∷ take ∷ [];
+    }
+
+abbrev pub samples : List Sample
+samples =
+    -- "S1. The byte 0x41": "verdict 20, tick 1,910, step 24, count 1, ledger 1630, 1660."
+    sends s1 1910 24 0x41 1630 1660
+    -- "No steps: 22, tick 0." "Written from no bytes: 21, tick 762, step 4."
+    ∷ stops [] 22 0 0
+    ∷ stops (200 ∶ 6 ∷ 50 ∶ 4 ∷ 220 ∶ 0 ∷ 80 ∶ 4 ∷ 300 ∶ 0 ∷ []) 21 762 4
+    -- "(1,0) for 257 ticks: 24 at 256; for 256, then (1,1): 22."
+    ∷ stops (257 ∶ 2 ∷ []) 24 256 0
+    ∷ stops (256 ∶ 2 ∷ 1 ∶ 6 ∷ []) 22 257 2
+    -- "S1 with 199 for 220: 26 at 449; with 200: 20."
+    ∷ stops (s1With 199 80 40 60 200) 26 449 3
+    ∷ sends (s1With 200 80 40 60 200) 1890 24 0x41 1610 1640
+    -- "S1 with 59 for 80: 28 at 529." "With 61 for 40: 30 at 611; with 60: 20."
+    ∷ stops (s1With 220 59 40 60 200) 28 529 4
+    ∷ stops (s1With 220 80 61 60 200) 30 611 5
+    ∷ sends (s1With 220 80 60 60 200) 1930 24 0x41 1650 1680
+    -- "S1 with the first valid 19: 32 at 679; with 20: 20."
+    ∷ stops (s1With 220 80 40 19 200) 32 679 7
+    ∷ sends (s1With 220 80 40 20 200) 1870 24 0x41 1590 1620
+    -- "The byte 0x80, the 30:2 step left out and the last hold 100: 36 at 1,730." "With it 101: 20, ledger 1631, 1631."
+    ∷ stops (s80With 100) 36 1730 22
+    ∷ sends (s80With 101) 1781 23 0x80 1631 1631
+    -- "S1 with its last hold 99: 36 at 1,759."
+    ∷ stops (s1With 220 80 40 60 99) 36 1759 23
+    ∷ []
+
+-- The buffers that are lent, just large enough. Every place of them has a mark, so that a place which should have kept it is seen.
+abbrev pub markedBytes : List ℕ
+markedBytes = replicate 1000 0xA5
+
+abbrev pub markedLedger : List ℕ
+markedLedger = replicate 2000 0xA5A5A5A5
+
+abbrev pub judgedSample : Sample → Judged
+judgedSample s = judged standardLimits (fileOf (s .steps)) markedBytes markedLedger
+
+abbrev pub expectedOf : Sample → Judged
+expectedOf s = left (s .answer) (s .bytes over markedBytes) (s .ledger over markedLedger)
+
+abbrev pub SamplesHold : Type 0
+SamplesHold = map judgedSample samples ≡ map expectedOf samples
+
+-- S1's "whole file": the header's bytes as document 01 prints them, and each step in four bytes.
+abbrev pub s1File : List ℕ
+s1File =
+    0x01 ∷ 0x00 ∷ 0x19 ∷ 0x00
+    ∷ 0x10 ∷ 0x00 ∷ 0x00 ∷ 0x00
+    ∷ 0xDA ∷ 0x07 ∷ 0x00 ∷ 0x00
+    ∷ 0x74 ∷ 0x00 ∷ 0x00 ∷ 0x00
+    -- 200:6 50:4 220:0 80:4 40:0
+    ∷ 200 ∷ 0 ∷ 6 ∷ 0 ∷ 50 ∷ 0 ∷ 4 ∷ 0 ∷ 220 ∷ 0 ∷ 0 ∷ 0 ∷ 80 ∷ 0 ∷ 4 ∷ 0 ∷ 40 ∷ 0 ∷ 0 ∷ 0
+    -- 70:6 60:4
+    ∷ 70 ∷ 0 ∷ 6 ∷ 0 ∷ 60 ∷ 0 ∷ 4 ∷ 0
+    -- "five times 70:2 60:0"
+    ∷ 70 ∷ 0 ∷ 2 ∷ 0 ∷ 60 ∷ 0 ∷ 0 ∷ 0
+    ∷ 70 ∷ 0 ∷ 2 ∷ 0 ∷ 60 ∷ 0 ∷ 0 ∷ 0
+    ∷ 70 ∷ 0 ∷ 2 ∷ 0 ∷ 60 ∷ 0 ∷ 0 ∷ 0
+    ∷ 70 ∷ 0 ∷ 2 ∷ 0 ∷ 60 ∷ 0 ∷ 0 ∷ 0
+    ∷ 70 ∷ 0 ∷ 2 ∷ 0 ∷ 60 ∷ 0 ∷ 0 ∷ 0
+    -- "then 70:6 60:4 70:2 60:0 30:2 200:6 50:4 100:0"
+    ∷ 70 ∷ 0 ∷ 6 ∷ 0 ∷ 60 ∷ 0 ∷ 4 ∷ 0 ∷ 70 ∷ 0 ∷ 2 ∷ 0 ∷ 60 ∷ 0 ∷ 0 ∷ 0
+    ∷ 30 ∷ 0 ∷ 2 ∷ 0 ∷ 200 ∷ 0 ∷ 6 ∷ 0 ∷ 50 ∷ 0 ∷ 4 ∷ 0 ∷ 100 ∷ 0 ∷ 0 ∷ 0 ∷ []
+
+abbrev pub S1Printed : Type 0
+S1Printed = fileOf s1 ≡ s1File

@@ -1,0 +1,42 @@
+// The reading of a recording: step after step, and in each step tick after tick.
+ghost use mathlib.Core.Path.{_≡_};
+ghost use Rattle.judge.specs.Reading.{Readable, reached, readInto, ticksFrom};
+use crate::handed;
+use recording::Step;
+use transfer::Limits;
+use transfer::Lines;
+use transfer::State;
+
+// The state after the last tick, or at the deciding one. Each byte and its two ticks are put down as they are handed over.
+pub(crate) fn read(
+    file: &[u8],
+    steps: usize,
+    limits: Limits,
+    bytes: &mut [u8],
+    ledger: &mut [u32],
+) -> State
+    requires { ⌜ Readable (now file) steps (now bytes) (now ledger) ⌝ }
+    ensures { λ r. ⌜ reached r (now (bytes .exit)) (now (ledger .exit))
+        ≡ readInto limits (ticksFrom (now (file .entry)) 0 steps) (now (bytes .entry)) (now (ledger .entry)) ⌝ }
+{
+    let mut state = State::new();
+    let mut index: usize = 0;
+    'steps: while index < steps {
+        let step = Step::read(file, index);
+        let lines = Lines::of_byte(step.lines);
+        let duration = step.duration;
+        let mut passed: u16 = 0;
+        while passed < duration {
+            let next = state.next(limits, lines);
+            handed::put_byte(bytes, state, next);
+            handed::put_ticks(ledger, state, next);
+            state = next;
+            if next.is_decided() {
+                break 'steps;
+            }
+            passed += 1;
+        }
+        index += 1;
+    }
+    state
+}
