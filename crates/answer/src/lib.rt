@@ -1,6 +1,6 @@
 // What an entry answers.
 ghost use mathlib.Core.Path.{_≡_};
-ghost use Rattle.answer.specs.Answers.{refused};
+ghost use Rattle.answer.specs.Answers.{refused, accepted};
 
 // Document 01: "An answer is a number, a tick, a step and a count."
 pub struct Answer {
@@ -19,6 +19,17 @@ impl Answer {
             tick: 0,
             step,
             count: 0,
+        }
+    }
+
+    pub fn accepted(count: u32) -> Answer
+        ensures { λ r. ⌜ r ≡ accepted count ⌝ }
+    {
+        Answer {
+            number: 0,
+            tick: 0,
+            step: 0,
+            count,
         }
     }
 }

@@ -45,3 +45,9 @@ total-counts [] = refl
 total-counts (s ∷ ss) =
     let rest = total-counts ss in
     simp (length-append, length-replicate) (omega arith)
+
+-- Two lists of steps, one after the other.
+pub total-append : (xs ys : List Step) → totalTicks (xs ++ ys) ≡ totalTicks xs + totalTicks ys
+unfolding totalTicks
+total-append [] ys = omega arith
+total-append (x ∷ xs) ys = let rest = total-append xs ys in omega arith

@@ -1,0 +1,71 @@
+-- Read-back over tick lists: a pair for the string gives the ticks that are put down, so that the judge finds them complete with it; and
+-- what the judge finds where no byte was given. Assumes nothing.
+use Prim.Native.Nat.{ℕ}
+use mathlib.Core.Path.{_≡_, refl}
+use mathlib.Core.List.{List, [], _∷_, map}
+use borrow.Author.Needs.{needs}
+use Rattle.recording.specs.GoodForm.{Bytes}
+use Rattle.recording.specs.Ticks.{ticks}
+use Rattle.transfer.specs.Limits.{standardLimits}
+use Rattle.transfer.specs.Lines.{linesOf}
+use Rattle.transfer.specs.Offsets.{below, upTo}
+use Rattle.transfer.specs.Phases.{next, same, withBit, handover, afterBit}
+use Rattle.transfer.specs.States.{follow, nextState}
+use Rattle.transfer.specs.Outcome.{stateAfter, handedOver, outcome}
+use Rattle.transfer.specs.Parties.{planBytes}
+use Rattle.transfer.specs.Pair.{senderTrack, receiverTrack}
+use Rattle.transfer.specs.Demand3.{CompleteWith, Explained}
+use Rattle.transfer.specs.Verdicts.{brokenAt}
+use Rattle.transfer.specs.declared.limits.Limits.{Limits}
+use Rattle.transfer.specs.declared.lines.Lines.{Lines}
+use Rattle.transfer.specs.declared.verdict.Fault.the-variants.{EmptyStream}
+use Rattle.transfer.proofs.Demand3.{standard-demand3}
+use Rattle.writer.specs.Card.{standardCard}
+use Rattle.writer.specs.WrittenSteps.{writtenSteps}
+use Rattle.writer.specs.declared.card.Card.{Card}
+use Rattle.writer.proofs.SentPlan.{planOf, sends-string}
+use Rattle.writer.proofs.SentRules.{InTime, plan-keeps}
+use Rattle.writer.proofs.SentTicks.{gives-sent}
+
+-- What each tick of the recording of a string shows.
+abbrev pub writtenLines : Card → (string : List ℕ) → List Lines
+writtenLines card string = map linesOf (ticks (writtenSteps card string))
+
+module _ (first : ℕ) (others : List ℕ) (bytes : Bytes (first ∷ others)) where
+  -- With any card in time, the pair of its plan explains them.
+  pub in-time-explained : (L : Limits) (card : Card) → InTime L card
+      → Explained L (writtenLines card (first ∷ others)) (first ∷ others)
+  unfolding writtenSteps
+  in-time-explained L card in-time =
+      let plan = planOf card first others in
+      record {
+        sender = senderTrack plan;
+        receiver = receiverTrack plan;
+        dated = planBytes plan;
+        explains =
+            record {
+              pair =
+                  record {
+                    plan = plan;
+                    rules = plan-keeps in-time first others;
+                    sends = refl;
+                    receives = refl;
+                    string-is = sends-string card _ first others bytes;
+                    dated-so = refl;
+                  };
+              gives-it = gives-sent card (in-time .set-up) first others .same;
+            };
+      }
+
+  -- So it is with document 01's card and times: they are in time.
+  pub sent-explained : Explained standardLimits (writtenLines standardCard (first ∷ others)) (first ∷ others)
+  sent-explained = in-time-explained standardLimits standardCard (search needs)
+
+  -- By demand 3 the judge then finds them complete with the string.
+  pub sent-complete : CompleteWith standardLimits (writtenLines standardCard (first ∷ others)) (first ∷ others)
+  sent-complete = standard-demand3 (writtenLines standardCard (first ∷ others)) .exactly (first ∷ others) .1 sent-explained
+
+-- No bytes: 21 at tick 762, and none handed over, by one computation.
+pub empty-outcome : outcome standardLimits (writtenLines standardCard []) ≡ record { decision = brokenAt EmptyStream 762; bytes = [] }
+unfolding below upTo next same withBit handover afterBit follow nextState stateAfter handedOver outcome ticks writtenSteps
+empty-outcome = refl

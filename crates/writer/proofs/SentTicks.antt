@@ -1,0 +1,88 @@
+-- The tracks of a card's plan give the ticks that the steps put down mean. Assumes nothing.
+use Prim.Native.Nat.{ℕ, zero, suc, _+_, _-_, _*_, _/_, _%_, _≤_, _<_}
+use native.Mathlib.Omega.{arith}
+use mathlib.Core.Path.{_≡_, refl, sym, ap, ap₂, _∙_}
+use mathlib.Core.Bool.{Bool, true, false}
+use mathlib.Core.List.{List, [], _∷_, _++_, map, append-nil, append-assoc}
+use lib.Dec.{eqb}
+use lib.ListN.{replicate}
+use Rattle.recording.specs.Ticks.{ticks}
+use Rattle.recording.specs.declared.step.Step.{Step}
+use Rattle.transfer.specs.Choice.{if_then_else_}
+use Rattle.transfer.specs.Lines.{linesOf}
+use Rattle.transfer.specs.Parties.{Pulls, pulls, nobody, held, clock, clockHeld, sets, offers, bitsTrack, frameTrack, track}
+use Rattle.transfer.specs.Pair.{senderPulls, receiverPulls, gives}
+use Rattle.transfer.proofs.Run.{lines}
+use Rattle.transfer.proofs.Forward.{shows as onBus}
+use Rattle.transfer.proofs.HandoverTicks.{frame-ticks}
+use Rattle.transfer.proofs.Plans.{handover-is}
+use Rattle.writer.specs.WrittenSteps.{shows, bitSteps, byteSteps, sentSteps}
+use Rattle.writer.specs.declared.card.Card.{Card}
+use Rattle.writer.proofs.SentPlan.{odd, bitsOf, frameOf, planOf}
+
+-- Both tracks give the ticks of the steps.
+pub record Gives (js : List Pulls) (steps : List Step) : Type 0 where
+  pub same : gives (map senderPulls js) (map receiverPulls js) ≡ map linesOf (ticks steps)
+
+gives-nothing : Gives [] []
+unfolding ticks
+gives-nothing = record { same = refl }
+
+-- Equal ticks of both tracks in front, and the step that shows them; the same where nothing follows.
+gives-step : (p : Pulls) {byte n : ℕ} {js : List Pulls} {steps : List Step} → linesOf byte ≡ onBus p → Gives js steps
+    → Gives (replicate n p ++ js) (record { duration = n; lines = byte; last = 0 } ∷ steps)
+unfolding ticks
+gives-step p {n = zero} e rest = record { same = rest .same }
+gives-step (pulls clk sender receiver) {n = suc n} e rest =
+    record { same = ap₂ (λ l w. l ∷ w) (sym e) (gives-step (pulls clk sender receiver) {n = n} e rest .same) }
+
+gives-last : (p : Pulls) {byte n : ℕ} → linesOf byte ≡ onBus p
+    → Gives (replicate n p) (record { duration = n; lines = byte; last = 0 } ∷ [])
+gives-last p {n = n} e = rw (← (append-nil (replicate n p))) (gives-step p e gives-nothing)
+
+-- The line byte of a bit's step, d being the bit.
+bit-lines : (clk : Bool) (d : ℕ) → d < 2 → linesOf (2 * (if clk then 1 else 0) + 4 * d) ≡ lines clk (eqb d 1)
+bit-lines true zero h = refl
+bit-lines true (suc zero) h = refl
+bit-lines false zero h = refl
+bit-lines false (suc zero) h = refl
+bit-lines clk (suc (suc d)) h = absurd (omega arith)
+
+-- The ticks of a set-up are equal.
+set-up-shows : (b : Bool) (n : ℕ) → map sets (replicate n b) ≡ replicate n (sets b)
+set-up-shows b zero = refl
+set-up-shows b (suc n) = ap (λ w. sets b ∷ w) (set-up-shows b n)
+
+set-up-ticks : (b : Bool) (n : ℕ) (js : List Pulls) → 1 ≤ n
+    → sets b ∷ (map sets (replicate (n - 1) b) ++ js) ≡ replicate n (sets b) ++ js
+set-up-ticks b n js h =
+    let one-more : suc (n - 1) ≡ n = omega arith in
+    ap (λ w. sets b ∷ (w ++ js)) (set-up-shows b (n - 1)) ∙ ap (λ (k : ℕ). replicate k (sets b) ++ js) one-more
+
+module _ (card : Card) (some : 1 ≤ card .«set_up») where
+  gives-bits : (k value : ℕ) {js : List Pulls} {steps : List Step} → Gives js steps
+      → Gives (bitsTrack (bitsOf card k value) js) (bitSteps card k value ++ steps)
+  unfolding bitsOf bitSteps
+  gives-bits zero value rest = rest
+  gives-bits (suc k) value rest =
+      rw set-up-ticks
+      (gives-step (sets (odd value)) (bit-lines true (value % 2) (omega arith))
+      (gives-step (offers (odd value)) (bit-lines false (value % 2) (omega arith)) (gives-bits k (value / 2) rest)))
+
+  -- A byte from its bits on: the steps that follow begin with the receiver's hold and its wait.
+  gives-frame : (value : ℕ) (js : List Pulls) {steps : List Step}
+      → Gives (replicate (card .hold) clockHeld ++ (replicate (card .ready) held ++ js)) steps
+      → Gives (frameTrack (frameOf card value) js) (bitSteps card 8 value ++ (shows 1 0 (card .take) ∷ []) ++ steps)
+  gives-frame value js rest =
+      let js-held = replicate (card .ready) held ++ js in
+      let taken = handover-is 0 (card .take) (card .hold) (card .take) (card .take + card .hold) js-held (omega arith) refl in
+      rw (frame-ticks, ← taken, append-assoc) (gives-bits 8 value (gives-step clock refl rest))
+
+  -- The steps of one byte or more.
+  pub gives-sent : (first : ℕ) (others : List ℕ) → Gives (track (planOf card first others)) (sentSteps card first others)
+  unfolding sentSteps byteSteps
+  gives-sent first [] =
+      gives-step clockHeld refl (gives-step held refl (gives-step nobody refl (gives-step held refl (gives-step nobody refl
+      (gives-frame first _ (gives-step clockHeld refl (gives-step held refl (gives-last nobody refl))))))))
+  gives-sent first (second ∷ others) =
+      gives-step clockHeld refl (gives-step held refl (gives-step nobody refl (gives-frame first _ (gives-sent second others))))

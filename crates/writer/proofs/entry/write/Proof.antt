@@ -1,0 +1,72 @@
+-- `write` meets its contract: each return is a row of the definition, and what is put down is read back. Assumes nothing.
+use mathlib.Core.Path.{ap, ap₂, _∙_}
+use Rattle.answer.specs.Answers.{accepted}
+use Rattle.answer.specs.Lent.{_over_}
+use Rattle.writer.specs.Written.{left, recordingOf}
+use Rattle.writer.proofs.WrittenLaws.{too-many, no-room, all-well, refuses, puts-down}
+use borrow.Author.Needs.{needs}
+use Rattle.writer.proofs.entry.write.Statement.{statement}
+use Rattle.writer.proofs.entry.write.Tie as tie
+
+refused-requires : tie.Need-refused-requires
+refused-requires c κs = search needs
+
+returns : tie.Need-returns
+returns c =
+    let d = c .before .before .before .before .args .destination .now in
+    refuses _ d _ 10 (search needs) (ap (λ r. left r d) (c .refused .ensures)) (too-many _ _ d (search needs))
+
+written-length-requires : tie.Need-written-length-requires
+written-length-requires c κs = search needs
+
+refused-requires-2 : tie.Need-refused-requires-2
+refused-requires-2 c κs = search needs
+
+returns-2 : tie.Need-returns-2
+returns-2 c =
+    let d = c .before .before .before .before .before .before .args .destination .now in
+    refuses _ d _ 11 (search needs) (ap (λ r. left r d) (c .refused2 .ensures)) (no-room _ _ d (search needs) (search needs))
+
+standard-requires : tie.Need-standard-requires
+standard-requires c κs = search needs
+
+put-recording-requires : tie.Need-put-recording-requires
+put-recording-requires c κs = search needs
+
+cast-accepted : tie.Need-cast-accepted
+cast-accepted c = search needs
+
+accepted-requires : tie.Need-accepted-requires
+accepted-requires c κs = search needs
+
+same-length : tie.Need-same-length
+same-length c = search needs
+
+returns-3 : tie.Need-returns-3
+returns-3 c =
+    let put = c .before .before .before in
+    let counted = put .before .before .before .before in
+    let known = counted .before .before .before in
+    let a = known .before .args in
+    let bytes = a .bytes .now in
+    let d = a .destination .now in
+    let same-answer = c .accepted .ensures ∙ ap accepted (counted .written-length .ensures) in
+    let same-bytes = put .put-recording .ensures ∙ ap (λ card. recordingOf card bytes over d) (put .before .standard .ensures) in
+    puts-down bytes d _ (λ i. known .shared-slice-known .given i .fits) (search needs) (ap₂ left same-answer same-bytes)
+    (all-well _ bytes d (search needs) (search needs))
+
+pub write-spec : {M : Type 1} → statement M
+write-spec =
+    tie.close
+    (tie.spec
+    refused-requires
+    returns
+    written-length-requires
+    refused-requires-2
+    returns-2
+    standard-requires
+    put-recording-requires
+    cast-accepted
+    accepted-requires
+    same-length
+    returns-3)

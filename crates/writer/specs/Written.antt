@@ -1,0 +1,44 @@
+-- What the writer answers and leaves, for any bytes and any destination.
+use Prim.Native.Nat.{ℕ, _+_, _*_}
+use mathlib.Core.List.{List}
+use lib.Dec.{ltb}
+use lib.ListN.{length}
+use Rattle.answer.specs.Answers.{refused, accepted}
+use Rattle.answer.specs.Lent.{_over_}
+use Rattle.answer.specs.declared.Answer.{Answer}
+use Rattle.recording.specs.Choice.{if_then_else_}
+use Rattle.recording.specs.FileOf.{fileOf}
+use Rattle.writer.specs.WrittenSteps.{writtenSteps}
+use Rattle.writer.specs.declared.card.Card.{Card}
+
+abbrev pub mostBytes : ℕ
+mostBytes = 799
+
+-- "Steps 20n+5, bytes 80n+36."
+abbrev pub writtenStepCount : (n : ℕ) → ℕ
+writtenStepCount n = 20 * n + 5
+
+abbrev pub writtenLength : (n : ℕ) → ℕ
+writtenLength n = 80 * n + 36
+
+-- The recording of a string.
+unfoldable pub recordingOf : Card → (string : List ℕ) → List ℕ
+recordingOf card string = fileOf (writtenSteps card string)
+
+-- An answer, and the destination as it is left.
+pub record Written : Type 0 where
+  pub answer : Answer
+  pub destination : List ℕ
+
+abbrev pub left : Answer → List ℕ → Written
+left answer destination = record { answer = answer; destination = destination }
+
+-- "The writer tests 10, then 11." "No lent byte .. changes" at a refusal; otherwise the destination begins with the recording, and
+-- "bytes of the destination beyond these don't change". "It answers number 0, tick 0, step 0, and the length as count": the recording's.
+unfoldable pub written : Card → (bytes destination : List ℕ) → Written
+written card bytes destination =
+    -- 10: "more than 799 bytes"
+    if ltb mostBytes (length bytes) then left (refused 10 0) destination else
+    -- 11: "destination under 80n+36 bytes, n the number of bytes given"
+    if ltb (length destination) (writtenLength (length bytes)) then left (refused 11 0) destination else
+    left (accepted (writtenLength (length bytes))) (recordingOf card bytes over destination)

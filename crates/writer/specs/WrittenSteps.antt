@@ -1,0 +1,63 @@
+-- Document 01, "What the writer puts down", sentence by sentence.
+use Prim.Native.Nat.{ℕ, zero, suc, _+_, _*_, _/_, _%_}
+use mathlib.Core.List.{List, [], _∷_, _++_}
+use Rattle.recording.specs.declared.step.Step.{Step}
+use Rattle.writer.specs.declared.card.Card.{Card}
+
+-- (c,d) for so many ticks. CLK is bit 1 of the line byte, DATA bit 2; "ATN and SRQ stay released".
+abbrev pub shows : (clk dat duration : ℕ) → Step
+shows c d duration = record { duration = duration; lines = 2 * c + 4 * d; last = 0 }
+
+module _ (card : Card) where
+  -- "Each bit (1,b) 70, (0,b) 60": the lowest k bits of a value, least significant first.
+  unfoldable pub bitSteps : (k value : ℕ) → List Step
+  bitSteps zero value = []
+  bitSteps (suc k) value =
+      shows 1 (value % 2) (card .«set_up»)
+      ∷ shows 0 (value % 2) (card .valid)
+      ∷ bitSteps k (value / 2)
+
+  -- "For each byte: (1,1) 200, (0,1) 50, (0,0) 60; each bit ..; (1,0) 30." What stands between the 50 and the bits is `gap`.
+  unfoldable pub byteSteps : (gap : List Step) (value : ℕ) → List Step
+  byteSteps gap value =
+      shows 1 1 (card .hold)
+      ∷ shows 0 1 (card .ready)
+      ∷ (gap ++ (bitSteps 8 value ++ (shows 1 0 (card .take) ∷ [])))
+
+  abbrev pub plainGap : List Step
+  plainGap = shows 0 0 (card .gap) ∷ []
+
+  -- "The last byte has (0,0) 220, (0,1) 80, (0,0) 40 in place of the 60."
+  abbrev pub endGap : List Step
+  endGap =
+      shows 0 0 (card .«end_gap»)
+      ∷ shows 0 1 (card .acknowledgement)
+      ∷ shows 0 0 (card .response)
+      ∷ []
+
+  -- "Then (1,1) 200, (0,1) 50, (0,0) 100."
+  abbrev pub closing : List Step
+  closing =
+      shows 1 1 (card .hold)
+      ∷ shows 0 1 (card .ready)
+      ∷ shows 0 0 (card .silence)
+      ∷ []
+
+  -- One byte or more: the first, and those that follow it.
+  unfoldable pub sentSteps : (first : ℕ) (others : List ℕ) → List Step
+  sentSteps first [] = byteSteps endGap first ++ closing
+  sentSteps first (second ∷ others) = byteSteps plainGap first ++ sentSteps second others
+
+  -- "No bytes: (1,1) 200, (0,1) 50, (0,0) 220, (0,1) 80, (0,0) 300."
+  abbrev pub emptySteps : List Step
+  emptySteps =
+      shows 1 1 (card .hold)
+      ∷ shows 0 1 (card .ready)
+      ∷ shows 0 0 (card .«end_gap»)
+      ∷ shows 0 1 (card .acknowledgement)
+      ∷ shows 0 0 (card .«no_response»)
+      ∷ []
+
+  unfoldable pub writtenSteps : List ℕ → List Step
+  writtenSteps [] = emptySteps
+  writtenSteps (first ∷ others) = sentSteps first others

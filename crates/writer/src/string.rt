@@ -1,0 +1,48 @@
+// The steps of a whole string, one byte after another.
+ghost use mathlib.Core.Path.{_≡_};
+ghost use Prim.Native.Nat.{_≤_};
+ghost use lib.ListN.{length};
+ghost use Rattle.recording.specs.Layout.{fileLength};
+ghost use Rattle.writer.specs.WrittenSteps.{writtenSteps};
+ghost use Rattle.writer.specs.Written.{mostBytes, writtenStepCount};
+ghost use Rattle.writer.specs.Pieces.{withSteps};
+use crate::card::Card;
+use crate::steps;
+
+// How many steps a byte has, and how many there are besides.
+const BYTE_STEPS: usize = 20;
+
+const OTHER_STEPS: usize = 5;
+
+pub(crate) fn step_count(bytes: usize) -> usize
+    requires { ⌜ bytes ≤ mostBytes ⌝ }
+    ensures { λ r. ⌜ r ≡ writtenStepCount bytes ⌝ }
+{
+    BYTE_STEPS * bytes + OTHER_STEPS
+}
+
+pub(crate) fn put_bytes(bytes: &[u8], destination: &mut [u8], card: Card)
+    requires { ⌜ fileLength (writtenStepCount (length (now bytes))) ≤ length (now destination) ⌝ }
+    ensures { λ _. ⌜ now (destination .exit) ≡ withSteps (now (destination .entry)) 0 (writtenSteps card (now (bytes .entry))) ⌝ }
+{
+    if bytes.len() == 0 {
+        steps::put_no_bytes(destination, 0, card);
+        return;
+    }
+    put_some_bytes(bytes, destination, card);
+}
+
+// One byte or more.
+fn put_some_bytes(bytes: &[u8], destination: &mut [u8], card: Card)
+    requires { ⌜ (1 ≤ length (now bytes)) × (fileLength (writtenStepCount (length (now bytes))) ≤ length (now destination)) ⌝ }
+    ensures { λ _. ⌜ now (destination .exit) ≡ withSteps (now (destination .entry)) 0 (writtenSteps card (now (bytes .entry))) ⌝ }
+{
+    let last = bytes.len() - 1;
+    let mut next: usize = 0;
+    let mut index: usize = 0;
+    while index < last {
+        next = steps::put_byte(destination, next, card, bytes[index]);
+        index += 1;
+    }
+    steps::put_last_byte(destination, next, card, bytes[last]);
+}
