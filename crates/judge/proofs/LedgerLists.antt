@@ -1,9 +1,9 @@
 -- Bytes handed over, as the values and the ticks that the lent buffers begin with. Assumes nothing.
-use Prim.Native.Nat.{ℕ, suc, _*_}
+use Prim.Native.Nat.{ℕ, _*_}
 use mathlib.Core.List.{List, [], _∷_, _++_}
 use mathlib.Core.Path.{_≡_, refl, ap}
 use native.Mathlib.Omega.{arith}
-use lib.ListN.{length}
+use lib.ListN.{length, length-map}
 use Rattle.transfer.specs.Pair.{values}
 use Rattle.transfer.specs.declared.phase.Byte.{Byte}
 use Rattle.judge.specs.Judged.{twoTicks}
@@ -16,8 +16,7 @@ reads-ledger [] rest = refl
 reads-ledger (b ∷ h) rest = ap (λ (l : List Byte). b ∷ l) (reads-ledger h rest)
 
 pub length-values : (h : List Byte) → length (values h) ≡ length h
-length-values [] = refl
-length-values (b ∷ h) = ap suc (length-values h)
+length-values h = length-map h (λ (b : Byte). b .value)
 
 pub length-twoTicks : (h : List Byte) → length (twoTicks h) ≡ 2 * length h
 unfolding twoTicks

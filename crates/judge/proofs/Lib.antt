@@ -3,6 +3,7 @@ pub mod Tests
 pub mod LedgerLists
 pub mod JudgedLaws
 pub mod Demand3
+pub mod Numbers
 pub mod Mission
 pub mod Samples
 pub mod TickLists

@@ -4,11 +4,11 @@ use mathlib.Core.List.{List, [], _∷_, _++_, map, map-append}
 use mathlib.Core.Path.{_≡_, refl, sym, ap, ap₂, subst, _∙_}
 use native.Mathlib.Nat.{sub-zero}
 use native.Mathlib.Omega.{arith}
-use lib.ListN.{length, replicate}
+use lib.ListN.{length, replicate, length-map}
 use Rattle.recording.specs.Layout.{mostSteps, headerAt, stepAt}
 use Rattle.recording.specs.Ticks.{stepsFrom, ticks, ticksOf}
 use Rattle.recording.specs.declared.step.Step.{Step}
-use Rattle.recording.proofs.StepLaws.{ticks-begin, ticks-end}
+use Rattle.recording.proofs.StepLaws.{ticks-begin, ticks-end, steps-count}
 use Rattle.transfer.specs.Lines.{linesOf}
 use Rattle.transfer.specs.Outcome.{handedOver, outcome}
 use Rattle.transfer.specs.Spans.{Span, ticks as spanned}
@@ -61,15 +61,10 @@ unfolding ticks
 in-spans [] = refl
 in-spans (s ∷ steps) = step-lines s (ticks steps) ∙ ap (λ w. replicate (s .duration) (linesOf (s .lines)) ++ w) (in-spans steps)
 
-span-count : (file : List ℕ) (n i : ℕ) → length (map span (stepsFrom file i n)) ≡ n
-unfolding stepsFrom
-span-count file zero i = refl
-span-count file (suc n) i = ap suc (span-count file n (suc i))
-
 -- By the room law: the places that are lent suffice.
 pub few-handed : (L : Limits) (file : List ℕ) (n : ℕ) → n ≤ mostSteps → length (handedOver L firstState (ticksFrom file 0 n)) < byteRoom
 unfolding outcome
 few-handed L file n h =
     let spans = map span (stepsFrom file 0 n) in
     subst (λ w. length (handedOver L firstState w) < byteRoom) (sym (in-spans (stepsFrom file 0 n)))
-    (room L spans .few (omega (arith, span-count file n 0)))
+    (room L spans .few (omega (arith, length-map (stepsFrom file 0 n) span, steps-count file n 0)))

@@ -1,13 +1,18 @@
 -- What the station stands on, a line each: proved of what the judge gives.
-use Prim.Native.Nat.{ℕ, _≤_}
+use Prim.Native.Nat.{ℕ, suc, _<_, _≤_}
 use mathlib.Core.Path.{_≡_}
 use mathlib.Core.List.{List}
-use Rattle.recording.specs.GoodForm.{GoodForm}
+use lib.ListN.{take}
+use Rattle.answer.specs.Answers.{refused}
+use Rattle.answer.specs.declared.Answer.{Answer}
+use Rattle.recording.specs.Layout.{headerAt}
+use Rattle.recording.specs.Ticks.{totalTicks}
+use Rattle.recording.specs.declared.step.Step.{Step}
 use Rattle.transfer.specs.Limits.{standardLimits}
 use Rattle.transfer.specs.Outcome.{stateAfter}
 use Rattle.transfer.specs.States.{firstState}
 use Rattle.transfer.specs.declared.phase.Phase.the-variants.{End}
-use Rattle.judge.specs.Judged.{Judged, left, judged, tickList}
+use Rattle.judge.specs.Judged.{left, stepHolding, judged, tickList}
 use Rattle.judge.specs.Demand3.{GoodWithRoom}
 
 -- The stream of a recording is finished: the recording is of good form, with enough room lent, and runs out in phase E, whose first
@@ -33,3 +38,27 @@ abbrev pub NoStepsAreCut : Type 0
 NoStepsAreCut =
     (file bytes ledger : List ℕ) (g : GoodWithRoom file bytes ledger) → g .steps ≡ 0
     → judged standardLimits file bytes ledger ≡ left (record { number = 22; tick = 0; step = 0; count = 0 }) bytes ledger
+
+-- "Every refusal has tick 0 and count 0 .. and no lent byte or number changes." The refusals are the numbers below 20.
+abbrev pub RefusalsChangeNothing : Type 0
+RefusalsChangeNothing =
+    (file bytes ledger : List ℕ) → (let j = judged standardLimits file bytes ledger in
+    j .answer .number < 20 → j ≡ left (refused (j .answer .number) (j .answer .step)) bytes ledger)
+
+-- "22: total ticks and n", both of them the header's.
+pub record AtTheEnd (file : List ℕ) (a : Answer) : Type 0 where
+  pub tick : a .tick ≡ headerAt file .total
+  pub step : a .step ≡ headerAt file .steps
+
+abbrev pub CutAtTheEnd : Type 0
+CutAtTheEnd =
+    (file bytes ledger : List ℕ) → (let a = judged standardLimits file bytes ledger .answer in
+    a .number ≡ 22 → AtTheEnd file a)
+
+-- "The step holding" a tick of the recording: it has begun by then, and is not over.
+pub record Holds (tick : ℕ) (steps : List Step) (i : ℕ) : Type 0 where
+  pub begun : totalTicks (take i steps) ≤ tick
+  pub not-over : tick < totalTicks (take (suc i) steps)
+
+abbrev pub HoldingLaw : Type 0
+HoldingLaw = (tick : ℕ) (steps : List Step) → tick < totalTicks steps → Holds tick steps (stepHolding tick steps)

@@ -1,5 +1,5 @@
 -- How the steps of a recording, and their ticks, go on by one step: for a loop at step i of n. Assumes nothing.
-use Prim.Native.Nat.{ℕ, suc, _+_, _-_, _<_, _≤_}
+use Prim.Native.Nat.{ℕ, zero, suc, _+_, _-_, _<_, _≤_}
 use mathlib.Core.List.{List, [], _∷_, _++_}
 use mathlib.Core.Path.{_≡_, refl, ap}
 use native.Mathlib.Nat.{sub-zero}
@@ -23,6 +23,11 @@ steps-begin file i n s e h = rw (one-less i n h, e, add-one i)
 pub steps-end : (file : List ℕ) (i n : ℕ) → n ≤ i → stepsFrom file i (n - i) ≡ []
 unfolding stepsFrom
 steps-end file i n h = let z : n - i ≡ 0 = omega arith in rw z
+
+pub steps-count : (file : List ℕ) (n i : ℕ) → length (stepsFrom file i n) ≡ n
+unfolding stepsFrom
+steps-count file zero i = refl
+steps-count file (suc n) i = ap suc (steps-count file n (suc i))
 
 -- Before the first step all ticks are left.
 pub ticks-all : (file : List ℕ) (n : ℕ) → n ≡ headerAt file .steps → ticksOf file ≡ ticks (stepsFrom file 0 (n - 0))

@@ -1,7 +1,7 @@
 -- What a loop over the ticks keeps.
 use Prim.Native.Nat.{_+_, _≤_}
 use mathlib.Core.Path.{_≡_}
-use mathlib.Core.Bool.{true}
+use mathlib.Core.Bool.{true, false}
 use mathlib.Core.List.{List, []}
 use lib.ListN.{length}
 use Rattle.transfer.specs.States.{nextState, isDecided}
@@ -22,6 +22,12 @@ OneTickLaw = (L : Limits) (s : State) (l : Lines) → OneTick s (nextState L s l
 -- The count rises by the bytes that are handed over.
 abbrev pub CountLaw : Type 0
 CountLaw = (L : Limits) (w : List Lines) (s : State) → stateAfter L s w .count ≡ s .count + length (handedOver L s w)
+
+-- A tick that decides nothing is passed, so a recording that runs out undecided has its total of ticks as its tick.
+abbrev pub PassedLaw : Type 0
+PassedLaw =
+    (L : Limits) (w : List Lines) (s : State) → isDecided (stateAfter L s w .phase) ≡ false
+    → stateAfter L s w .tick ≡ s .tick + length w
 
 -- "Stops for good": no tick changes a decided state or hands a byte over, so a loop may leave at the deciding tick.
 pub record Stands (L : Limits) (s : State) (w : List Lines) : Type 0 where

@@ -110,13 +110,12 @@ loop-again c =
     let inner = next .before .before in
     let outer = inner .before .before .before .before in
     let call = outer .before .before .before .before .before in
-    let k = inner .loop .inv in
-    let left = tick-left _ _ _ _ (next .before .loop-test .taken) in (
+    let k = inner .loop .inv in (
       search needs,
       k .1,
       k .2,
-      tick-read (call .args .limits) _ _ _ _ _ _ _ _ _ (next .next .result) _ _ _ _ (k .3) (omega arith) left (next .next .ensures)
-          (byte .put-byte .ensures) (ticks .put-ticks .ensures),
+      tick-read (call .args .limits) _ _ _ _ _ _ _ _ _ (next .next .result) _ _ _ _ (k .3) (omega arith)
+          (tick-left _ _ _ _ (next .before .loop-test .taken)) (next .next .ensures) (byte .put-byte .ensures) (ticks .put-ticks .ensures),
     )
 
 add-index : tie.Need-add-index Inv-loop μ-loop Inv-steps μ-steps
