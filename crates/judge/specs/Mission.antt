@@ -2,6 +2,7 @@
 use Prim.Native.Nat.{ℕ, suc, _<_, _≤_}
 use mathlib.Core.Path.{_≡_}
 use mathlib.Core.List.{List}
+use mathlib.Core.Logic.{_↔_}
 use lib.ListN.{take}
 use Rattle.answer.specs.Answers.{refused}
 use Rattle.answer.specs.declared.Answer.{Answer}
@@ -12,48 +13,49 @@ use Rattle.transfer.specs.Limits.{standardLimits}
 use Rattle.transfer.specs.Outcome.{stateAfter}
 use Rattle.transfer.specs.States.{firstState}
 use Rattle.transfer.specs.declared.phase.Phase.the-variants.{End}
-use Rattle.judge.specs.Judged.{left, stepHolding, judged, tickList}
+use Rattle.judge.specs.Judged.{Judged, left, stepHolding, judged, tickList}
 use Rattle.judge.specs.Demand3.{GoodWithRoom}
 
--- The stream of a recording is finished: the recording is of good form, with enough room lent, and runs out in phase E, whose first
--- tick is the finish tick.
-pub record Finished (file bytes ledger : List ℕ) (finish : ℕ) : Type 0 where
-  pub form : GoodWithRoom file bytes ledger
-  pub in-end : stateAfter standardLimits firstState (tickList file) .phase ≡ End finish
+-- Of what the judge gives for a recording and two lent buffers:
+module _ (file bytes ledger : List ℕ) where
+  abbrev pub given : Judged
+  given = judged standardLimits file bytes ledger
 
--- Nothing but a finished stream is ever 20.
-abbrev pub OnlyFinishedIs20 : Type 0
-OnlyFinishedIs20 =
-    (file bytes ledger : List ℕ) → judged standardLimits file bytes ledger .answer .number ≡ 20
-    → Finished file bytes ledger (judged standardLimits file bytes ledger .answer .tick)
+  -- The stream of a recording is finished: the recording is of good form, with enough room lent, and runs out in phase E, whose first
+  -- tick is the finish tick.
+  pub record Finished (finish : ℕ) : Type 0 where
+    pub form : GoodWithRoom file bytes ledger
+    pub in-end : stateAfter standardLimits firstState (tickList file) .phase ≡ End finish
 
--- A stream with no byte is never 20.
-abbrev pub NoByteIsNever20 : Type 0
-NoByteIsNever20 =
-    (file bytes ledger : List ℕ) → judged standardLimits file bytes ledger .answer .number ≡ 20
-    → 1 ≤ judged standardLimits file bytes ledger .answer .count
+  -- Nothing but a finished stream is ever 20, and its tick is the finish tick.
+  abbrev pub OnlyFinishedIs20 : Type 0
+  OnlyFinishedIs20 = given .answer .number ≡ 20 → Finished (given .answer .tick)
 
--- A well-formed recording of no steps, with room enough, is 22 at tick 0, step 0, and nothing is handed over.
-abbrev pub NoStepsAreCut : Type 0
-NoStepsAreCut =
-    (file bytes ledger : List ℕ) (g : GoodWithRoom file bytes ledger) → g .steps ≡ 0
-    → judged standardLimits file bytes ledger ≡ left (record { number = 22; tick = 0; step = 0; count = 0 }) bytes ledger
+  -- A stream with no byte is never 20.
+  abbrev pub NoByteIsNever20 : Type 0
+  NoByteIsNever20 = given .answer .number ≡ 20 → 1 ≤ given .answer .count
 
--- "Every refusal has tick 0 and count 0 .. and no lent byte or number changes." The refusals are the numbers below 20.
-abbrev pub RefusalsChangeNothing : Type 0
-RefusalsChangeNothing =
-    (file bytes ledger : List ℕ) → (let j = judged standardLimits file bytes ledger in
-    j .answer .number < 20 → j ≡ left (refused (j .answer .number) (j .answer .step)) bytes ledger)
+  -- A well-formed recording of no steps, with room enough, is 22 at tick 0, step 0, and no place of lent memory changes.
+  abbrev pub NoStepsAreCut : Type 0
+  NoStepsAreCut =
+      (good : GoodWithRoom file bytes ledger) → good .steps ≡ 0
+      → given ≡ left (record { number = 22; tick = 0; step = 0; count = 0 }) bytes ledger
 
--- "22: total ticks and n", both of them the header's.
-pub record AtTheEnd (file : List ℕ) (a : Answer) : Type 0 where
-  pub tick : a .tick ≡ headerAt file .total
-  pub step : a .step ≡ headerAt file .steps
+  -- The refusals are the numbers below 20: "of good form, with enough room lent, if no refusal that the judge may give is due".
+  abbrev pub NoRefusalIsDue : Type 0
+  NoRefusalIsDue = GoodWithRoom file bytes ledger ↔ (20 ≤ given .answer .number)
 
-abbrev pub CutAtTheEnd : Type 0
-CutAtTheEnd =
-    (file bytes ledger : List ℕ) → (let a = judged standardLimits file bytes ledger .answer in
-    a .number ≡ 22 → AtTheEnd file a)
+  -- "Every refusal has tick 0 and count 0 .. and no lent byte or number changes."
+  abbrev pub RefusalsChangeNothing : Type 0
+  RefusalsChangeNothing = given .answer .number < 20 → given ≡ left (refused (given .answer .number) (given .answer .step)) bytes ledger
+
+  -- "22: total ticks and n", both of them the header's.
+  pub record AtTheEnd (a : Answer) : Type 0 where
+    pub tick : a .tick ≡ headerAt file .total
+    pub step : a .step ≡ headerAt file .steps
+
+  abbrev pub CutAtTheEnd : Type 0
+  CutAtTheEnd = given .answer .number ≡ 22 → AtTheEnd (given .answer)
 
 -- "The step holding" a tick of the recording: it has begun by then, and is not over.
 pub record Holds (tick : ℕ) (steps : List Step) (i : ℕ) : Type 0 where
