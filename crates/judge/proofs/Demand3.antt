@@ -9,11 +9,10 @@ use lib.Seq.{take-append-seam}
 use Rattle.recording.specs.Ticks.{stepsOf}
 use Rattle.recording.specs.declared.step.Step.{Step}
 use Rattle.recording.proofs.GoodFormLaws.{good-form}
-use Rattle.transfer.specs.Demand3.{Consistent, Explains, Explained, CompleteWith as CompleteTicks}
+use Rattle.transfer.specs.Demand3.{Consistent, shownSender, shownReceiver, Explains, CompleteWith as CompleteTicks}
 use Rattle.transfer.specs.Limits.{standardLimits}
 use Rattle.transfer.specs.Outcome.{Outcome, outcome}
-use Rattle.transfer.specs.Pair.{senderPulls, receiverPulls, values, SameOrLater}
-use Rattle.transfer.specs.Shown.{shown}
+use Rattle.transfer.specs.Pair.{values, SameOrLater}
 use Rattle.transfer.specs.Verdicts.{verdictNumber}
 use Rattle.transfer.specs.declared.limits.Limits.{Limits}
 use Rattle.transfer.specs.declared.lines.Lines.{Lines}
@@ -21,7 +20,7 @@ use Rattle.transfer.specs.declared.phase.Byte.{Byte}
 use Rattle.transfer.proofs.Demand3.{demand3, standard-consistent}
 use Rattle.transfer.proofs.Facts.{only-complete-is-20}
 use Rattle.judge.specs.Judged.{Judged, tickList, twoTicks, verdictLeft, judged}
-use Rattle.judge.specs.Demand3.{GoodWithRoom, CompleteWith, dated, Demand3}
+use Rattle.judge.specs.Demand3.{GoodWithRoom, CompleteWith, dated, FileDemand3}
 use Rattle.judge.proofs.JudgedLaws.{is-verdict}
 use Rattle.judge.proofs.LedgerLists.{length-values, reads-ledger}
 
@@ -61,7 +60,7 @@ module _ (L : Limits) (times : Consistent L) (file b g : List ℕ) where
   abbrev w : List Lines
   w = tickList file
 
-  at-verdict : Demand3 L file (verdictLeft (stepsOf file) (outcome L (tickList file)) b g)
+  at-verdict : FileDemand3 L file (verdictLeft (stepsOf file) (outcome L (tickList file)) b g)
   at-verdict =
       let ticks = demand3 L times (tickList file) in
       let steps = stepsOf file in
@@ -72,7 +71,7 @@ module _ (L : Limits) (times : Consistent L) (file b g : List ℕ) where
         );
         shown-pair = λ string c.
             let t = complete-ticks L w steps b g string c in
-            subst (λ (d : List Byte). Explains L w string (map senderPulls (shown d w)) (map receiverPulls (shown d w)) d)
+            subst (λ (d : List Byte). Explains L w string (shownSender d w) (shownReceiver d w) d)
             (dated-handed L w steps b g string t) (ticks .shown-pair string t);
         earliest = λ string sender receiver other x.
             let t = ticks .exactly string .1 (record { sender = sender; receiver = receiver; dated = other; explains = x }) in
@@ -81,14 +80,14 @@ module _ (L : Limits) (times : Consistent L) (file b g : List ℕ) where
         never = λ none e. ticks .never none (only-complete-is-20 _ e);
       }
 
-  pub file-demand3 : GoodWithRoom file b g → Demand3 L file (judged L file b g)
+  pub file-demand3 : GoodWithRoom file b g → FileDemand3 L file (judged L file b g)
   file-demand3 good =
-      subst⁻¹ (Demand3 L file)
+      subst⁻¹ (FileDemand3 L file)
       (is-verdict L file b g (good .steps) (good-form file (good .steps) .1 (good .good-form)) (good .byte-room) (good .ledger-room))
       at-verdict
 
 -- Both clauses of the judge's promise, from the first.
 pub promised : (file b g : List ℕ) (j : Judged) → j ≡ judged standardLimits file b g
-    → (j ≡ judged standardLimits file b g) × (GoodWithRoom file b g → Demand3 standardLimits file j)
+    → (j ≡ judged standardLimits file b g) × (GoodWithRoom file b g → FileDemand3 standardLimits file j)
 promised file b g j e =
-    (e, λ good. subst⁻¹ (Demand3 standardLimits file) e (file-demand3 standardLimits standard-consistent file b g good))
+    (e, λ good. subst⁻¹ (FileDemand3 standardLimits file) e (file-demand3 standardLimits standard-consistent file b g good))

@@ -1,5 +1,5 @@
 -- The step that holds a tick: what it is, and the laws by which the search for it goes. Assumes nothing.
-use Prim.Native.Nat.{ℕ, suc, _+_, _-_, _<_, _≤_}
+use Prim.Native.Nat.{ℕ, zero, suc, _+_, _-_, _<_, _≤_}
 use mathlib.Core.Bool.{Bool, true, false}
 use mathlib.Core.List.{List, [], _∷_}
 use mathlib.Core.Path.{_≡_, refl, sym, ap, _∙_}
@@ -14,7 +14,7 @@ use Rattle.recording.specs.Ticks.{stepsFrom, totalTicks}
 use Rattle.recording.specs.declared.step.Step.{Step}
 use Rattle.recording.proofs.StepLaws.{steps-begin, steps-end}
 use Rattle.judge.specs.Judged.{stepHolding}
-use Rattle.judge.specs.Mission.{Holds, HoldingLaw}
+use Rattle.judge.specs.Mission.{Holds}
 
 -- The first of some steps holds the tick, or it doesn't.
 first-holds : (tick : ℕ) (s : Step) (steps : List Step) → tick < s .duration → stepHolding tick (s ∷ steps) ≡ 0
@@ -26,20 +26,32 @@ later-holds : (tick : ℕ) (s : Step) (steps : List Step) → s .duration ≤ ti
 unfolding stepHolding
 later-holds tick s steps h = rw (le-ltb tick (s .duration) h)
 
--- The steps that hold the ticks of a recording.
-pub holding : HoldingLaw
-unfolding totalTicks stepHolding
-holding tick [] h = absurd (omega arith)
-holding tick (s ∷ steps) h = by-test (holding (tick - s .duration) steps) (ltb tick (s .duration)) refl
-  where
-    by-test : (tick - s .duration < totalTicks steps → Holds (tick - s .duration) steps (stepHolding (tick - s .duration) steps))
-        → (t : Bool) → ltb tick (s .duration) ≡ t
-        → Holds tick (s ∷ steps) (if t then 0 else suc (stepHolding (tick - s .duration) steps))
-    by-test later true e = record { begun = omega arith; not-over = omega (arith, ltb-true tick (s .duration) e) }
-    by-test later false e =
-        let d = ltb-false tick (s .duration) e in
-        let rest = later (omega arith) in
-        record { begun = omega (arith, rest .begun); not-over = omega (arith, rest .not-over) }
+-- A tick before the end is held by a step that has begun by then and is not over.
+module _ (file : List ℕ) where
+  holds-from : (n i tick : ℕ) → tick < totalTicks (stepsFrom file i n) → (let k = stepHolding tick (stepsFrom file i n) in
+      (totalTicks (stepsFrom file i k) ≤ tick) × (tick < totalTicks (stepsFrom file i (suc k))))
+  unfolding totalTicks stepsFrom stepHolding
+  holds-from zero i tick h = absurd (omega arith)
+  holds-from (suc n) i tick h = by-test (holds-from n (suc i) (tick - d)) (ltb tick d) refl
+    where
+      d : ℕ
+      d = stepAt file i .duration
+
+      later : ℕ
+      later = stepHolding (tick - d) (stepsFrom file (suc i) n)
+
+      by-test : (tick - d < totalTicks (stepsFrom file (suc i) n)
+          → (totalTicks (stepsFrom file (suc i) later) ≤ tick - d) × (tick - d < totalTicks (stepsFrom file (suc i) (suc later))))
+          → (t : Bool) → ltb tick d ≡ t → (let k = if t then 0 else suc later in
+          (totalTicks (stepsFrom file i k) ≤ tick) × (tick < totalTicks (stepsFrom file i (suc k))))
+      by-test rest true e = (omega arith, omega (arith, ltb-true tick d e))
+      by-test rest false e =
+          let past = ltb-false tick d e in
+          let r = rest (omega arith) in
+          (omega (arith, r .0), omega (arith, r .1))
+
+  pub held-by-step : (n tick : ℕ) → tick < totalTicks (stepsFrom file 0 n) → Holds file tick (stepHolding tick (stepsFrom file 0 n))
+  held-by-step n tick h = let r = holds-from n 0 tick h in record { begun = r .0; not-over = r .1 }
 
 -- No step holds the tick at the end.
 pub held-at-the-end : (steps : List Step) → stepHolding (totalTicks steps) steps ≡ length steps

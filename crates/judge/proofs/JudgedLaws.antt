@@ -13,7 +13,7 @@ use Rattle.recording.specs.declared.form.Form.the-variants.{Good, Refused}
 use Rattle.recording.specs.declared.refusal.Refusal.{Refusal}
 use Rattle.transfer.specs.Outcome.{outcome}
 use Rattle.transfer.specs.declared.limits.Limits.{Limits}
-use Rattle.judge.specs.Judged.{left, byteRoom, ledgerRoom, tickList, verdictLeft, judgedInForm, judged}
+use Rattle.judge.specs.Judged.{leaves, byteRoom, ledgerRoom, tickList, verdictLeft, judgedInForm, judged}
 
 -- The steps of a recording of good form, as a loop over n steps reads them.
 pub good-steps : (file : List ℕ) (n : ℕ) → GoodForm file n → stepsOf file ≡ stepsFrom file 0 n
@@ -22,16 +22,16 @@ good-steps file n good = ap (stepsFrom file 0) (sym (good .counted))
 
 module _ (L : Limits) (file b g : List ℕ) where
   pub is-refused : (refusal : Refusal) (step : ℕ) → formOf file ≡ Refused refusal step
-      → judged L file b g ≡ left (refused (refusalNumber refusal) step) b g
+      → judged L file b g ≡ leaves (refused (refusalNumber refusal) step) b g
   unfolding judged judgedInForm
   is-refused refusal step e = ap (λ form. judgedInForm L file form b g) e
 
   module _ (n : ℕ) (good : formOf file ≡ Good n) where
-    pub few-places : length b < byteRoom → judged L file b g ≡ left (refused 9 0) b g
+    pub few-places : length b < byteRoom → judged L file b g ≡ leaves (refused 9 0) b g
     unfolding judged judgedInForm
     few-places h = ap (λ form. judgedInForm L file form b g) good ∙ rw (lt-ltb (length b) byteRoom h)
 
-    pub few-ledger-places : byteRoom ≤ length b → length g < ledgerRoom → judged L file b g ≡ left (refused 9 0) b g
+    pub few-ledger-places : byteRoom ≤ length b → length g < ledgerRoom → judged L file b g ≡ leaves (refused 9 0) b g
     unfolding judged judgedInForm
     few-ledger-places h k =
         ap (λ form. judgedInForm L file form b g) good ∙ rw (le-ltb (length b) byteRoom h, lt-ltb (length g) ledgerRoom k)

@@ -1,18 +1,16 @@
 -- From what was read to what the judge gives. Assumes nothing.
 use Prim.Native.Nat.{ℕ, _≤_}
-use mathlib.Core.List.{List, map}
+use mathlib.Core.List.{List}
 use mathlib.Core.Path.{_≡_, sym, ap, ap₂, _∙_}
 use native.Mathlib.Nat.{zero-add}
 use lib.ListN.{length}
 use Rattle.answer.specs.Lent.{_over_}
 use Rattle.answer.specs.declared.Answer.{Answer}
 use Rattle.recording.specs.Form.{formOf}
-use Rattle.recording.specs.GoodForm.{GoodForm}
-use Rattle.recording.specs.Ticks.{stepsFrom, stepsOf, ticks, ticksOf}
+use Rattle.recording.specs.Ticks.{stepsFrom}
 use Rattle.recording.specs.declared.form.Form.the-variants.{Good}
 use Rattle.recording.specs.declared.step.Step.{Step}
 use Rattle.recording.proofs.GoodFormLaws.{good-form}
-use Rattle.transfer.specs.Lines.{linesOf}
 use Rattle.transfer.specs.Outcome.{handedOver, outcome}
 use Rattle.transfer.specs.Pair.{values}
 use Rattle.transfer.specs.States.{firstState, decisionOf}
@@ -22,13 +20,9 @@ use Rattle.transfer.specs.declared.lines.Lines.{Lines}
 use Rattle.transfer.specs.declared.state.State.{State}
 use Rattle.transfer.specs.declared.verdict.Decision.{Decision}
 use Rattle.transfer.proofs.TickLaws.{counts}
-use Rattle.judge.specs.Judged.{left, byteRoom, ledgerRoom, tickList, twoTicks, stepHolding, verdictAnswer, verdictLeft, judged}
+use Rattle.judge.specs.Judged.{leaves, byteRoom, ledgerRoom, tickLines, twoTicks, stepHolding, verdictAnswer, verdictLeft, judged}
 use Rattle.judge.specs.Reading.{ticksFrom, Reached, reached, readInto, stateAnswer}
 use Rattle.judge.proofs.JudgedLaws.{good-steps, is-verdict}
-
-good-ticks : (file : List ℕ) (n : ℕ) → GoodForm file n → tickList file ≡ ticksFrom file 0 n
-unfolding ticksOf
-good-ticks file n good = ap (λ (steps : List Step). map linesOf (ticks steps)) (good-steps file n good)
 
 -- The answer to a state, by the decision, the step and the number.
 pub state-answer : (steps : List Step) (s : State) (d : Decision) (step number : ℕ) → d ≡ decisionOf (s .phase) (s .tick)
@@ -40,25 +34,25 @@ state-answer steps s d step number ed es en =
 
 -- A tick list that was read into lent buffers, and the answer to the state reached, are the verdict's.
 read-verdict : (L : Limits) (steps : List Step) (w : List Lines) (b g : List ℕ)
-    → left (stateAnswer steps (readInto L w b g .state)) (readInto L w b g .bytes) (readInto L w b g .ledger)
+    → leaves (stateAnswer steps (readInto L w b g .state)) (readInto L w b g .bytes) (readInto L w b g .ledger)
     ≡ verdictLeft steps (outcome L w) b g
 unfolding readInto outcome
 read-verdict L steps w b g =
     let h = handedOver L firstState w in
     let s = readInto L w b g .state in
     let count : s .count ≡ length h = counts L w firstState ∙ zero-add (length h) in
-    ap (λ (n : ℕ). left (verdictAnswer steps (decisionOf (s .phase) (s .tick)) n) (values h over b) (twoTicks h over g)) count
+    ap (λ (n : ℕ). leaves (verdictAnswer steps (decisionOf (s .phase) (s .tick)) n) (values h over b) (twoTicks h over g)) count
 
 -- A recording of good form that was read, with enough room lent.
 pub is-read : (L : Limits) (file b g : List ℕ) (n : ℕ) → formOf file ≡ Good n → byteRoom ≤ length b → ledgerRoom ≤ length g
     → (K : Limits) (s : State) (b′ g′ : List ℕ) (a : Answer) → K ≡ L → reached s b′ g′ ≡ readInto K (ticksFrom file 0 n) b g
-    → a ≡ stateAnswer (stepsFrom file 0 n) s → left a b′ g′ ≡ judged L file b g
+    → a ≡ stateAnswer (stepsFrom file 0 n) s → leaves a b′ g′ ≡ judged L file b g
 is-read L file b g n e hb hg K s b′ g′ a ek er ea =
     let good = good-form file n .0 e in
     let read : reached s b′ g′ ≡ readInto L (ticksFrom file 0 n) b g =
     er ∙ ap (λ (M : Limits). readInto M (ticksFrom file 0 n) b g) ek in
-    ap (λ (x : Answer). left x b′ g′) ea
-    ∙ ap (λ (r : Reached). left (stateAnswer (stepsFrom file 0 n) (r .state)) (r .bytes) (r .ledger)) read
+    ap (λ (x : Answer). leaves x b′ g′) ea
+    ∙ ap (λ (r : Reached). leaves (stateAnswer (stepsFrom file 0 n) (r .state)) (r .bytes) (r .ledger)) read
     ∙ read-verdict L (stepsFrom file 0 n) (ticksFrom file 0 n) b g
-    ∙ ap₂ (λ (steps : List Step) w. verdictLeft steps (outcome L w) b g) (sym (good-steps file n good)) (sym (good-ticks file n good))
+    ∙ ap (λ (steps : List Step). verdictLeft steps (outcome L (tickLines steps)) b g) (sym (good-steps file n good))
     ∙ sym (is-verdict L file b g n e hb hg)

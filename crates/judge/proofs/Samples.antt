@@ -8,7 +8,7 @@ use Rattle.transfer.specs.Phases.{next, same, withBit, handover, afterBit}
 use Rattle.transfer.specs.States.{follow, nextState}
 use Rattle.transfer.specs.Outcome.{stateAfter, handedOver, outcome}
 use Rattle.judge.specs.Judged.{stepHolding, twoTicks, judgedInForm, judged}
-use Rattle.judge.specs.Samples.{SamplesHold, S1Printed}
+use Rattle.judge.specs.Samples.{SamplesHold, S1Printed, S1Ticks}
 
 pub samples-hold : SamplesHold
 unfolding below upTo next same withBit handover afterBit follow nextState stateAfter handedOver outcome
@@ -19,3 +19,7 @@ samples-hold = refl
 pub s1-printed : S1Printed
 unfolding headerBytes stepBytes stepsBytes fileOf totalTicks
 s1-printed = refl
+
+pub s1-ticks : S1Ticks
+unfolding ticks
+s1-ticks = refl

@@ -1,12 +1,12 @@
 -- The ticks of a recording's steps as lines: by one step, in spans, and how many bytes they hand over. Assumes nothing.
 use Prim.Native.Nat.{ℕ, zero, suc, _+_, _-_, _<_, _≤_}
 use mathlib.Core.List.{List, [], _∷_, _++_, map, map-append}
-use mathlib.Core.Path.{_≡_, refl, sym, ap, ap₂, subst, _∙_}
+use mathlib.Core.Path.{_≡_, refl, sym, ap, subst, _∙_}
 use native.Mathlib.Nat.{sub-zero}
 use native.Mathlib.Omega.{arith}
 use lib.ListN.{length, replicate, length-map}
-use Rattle.recording.specs.Layout.{mostSteps, headerAt, stepAt}
-use Rattle.recording.specs.Ticks.{stepsFrom, ticks, ticksOf}
+use Rattle.recording.specs.Layout.{mostSteps, stepAt}
+use Rattle.recording.specs.Ticks.{stepsFrom, ticks}
 use Rattle.recording.specs.declared.step.Step.{Step}
 use Rattle.recording.proofs.StepLaws.{ticks-begin, ticks-end, steps-count}
 use Rattle.transfer.specs.Lines.{linesOf}

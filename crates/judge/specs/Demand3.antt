@@ -1,15 +1,11 @@
--- Demand 3 about a file: what the judge left explains the recording. The two parties, `Explains`, `Explained` and `SameOrLater` are
--- those of the crate transfer, over tick lists.
+-- Demand 3 about a file: the statement of the crate transfer (its specs/Demand3.antt), said of what the judge leaves.
 use Prim.Native.Nat.{ℕ, _≤_}
 use mathlib.Core.Path.{_≡_}
-use mathlib.Core.Logic.{_↔_}
-use mathlib.Core.Bool.{Bool}
-use mathlib.Core.List.{List, [], _∷_, map}
-use lib.ListN.{length, take}
+use mathlib.Core.List.{List, [], _∷_}
+use lib.ListN.{length}
+use Rattle.answer.specs.Lent.{first}
 use Rattle.recording.specs.GoodForm.{GoodForm}
-use Rattle.transfer.specs.Demand3.{Explains, Explained}
-use Rattle.transfer.specs.Pair.{SenderPulls, senderPulls, receiverPulls, SameOrLater}
-use Rattle.transfer.specs.Shown.{shown}
+use Rattle.transfer.specs.Demand3.{Demand3}
 use Rattle.transfer.specs.declared.limits.Limits.{Limits}
 use Rattle.transfer.specs.declared.phase.Byte.{Byte}
 use Rattle.judge.specs.Judged.{Judged, byteRoom, ledgerRoom, tickList}
@@ -25,9 +21,9 @@ pub record GoodWithRoom (file bytes ledger : List ℕ) : Type 0 where
 pub record CompleteWith (j : Judged) (string : List ℕ) : Type 0 where
   pub number : j .answer .number ≡ 20
   pub count : j .answer .count ≡ length string
-  pub begins : take (length string) (j .bytes) ≡ string
+  pub begins : first (length string) (j .bytes) ≡ string
 
--- A string's bytes, each with its two ticks in the ledger.
+-- A string's bytes, each with its two ticks as a ledger begins with them.
 abbrev pub dated : (string ledger : List ℕ) → List Byte
 dated [] ledger = []
 dated (value ∷ string) [] = []
@@ -35,22 +31,7 @@ dated (value ∷ string) (let-go ∷ []) = []
 dated (value ∷ string) (let-go ∷ taken ∷ ledger) =
     record { value = value; «let_go» = let-go; take = taken } ∷ dated string ledger
 
-module _ (L : Limits) (file : List ℕ) (j : Judged) where
-  -- "The shown pair is read off the recording and the ledger."
-  abbrev pub shownSender : (string : List ℕ) → List SenderPulls
-  shownSender string = map senderPulls (shown (dated string (j .ledger)) (tickList file))
-
-  abbrev pub shownReceiver : (string : List ℕ) → List Bool
-  shownReceiver string = map receiverPulls (shown (dated string (j .ledger)) (tickList file))
-
-  pub record Demand3 : Type 0 where
-    -- Complete with a string exactly if a pair for it gives the recording.
-    pub exactly : (string : List ℕ) → CompleteWith j string ↔ Explained L (tickList file) string
-    -- The shown pair "is a pair for the string, it gives the recording, and its two ticks for each byte are the ledger's".
-    pub shown-pair : (string : List ℕ) → CompleteWith j string
-        → Explains L (tickList file) string (shownSender string) (shownReceiver string) (dated string (j .ledger))
-    -- "Every other pair that gives the recording has, at each of the two places of each byte, that tick or a later one."
-    pub earliest : (string : List ℕ) (sender : List SenderPulls) (receiver : List Bool) (other : List Byte)
-        → Explains L (tickList file) string sender receiver other → SameOrLater (dated string (j .ledger)) other
-    -- If no pair exists for any string, the number is never 20.
-    pub never : ((string : List ℕ) → Explained L (tickList file) string → ⊥) → j .answer .number ≡ 20 → ⊥
+-- Complete with a string exactly if a pair for it gives the recording; the pair shown by the recording and the ledger is such a pair; every
+-- other one has each tick the same or later; and if there is none for any string, the number is never 20.
+abbrev pub FileDemand3 : Limits → (file : List ℕ) → Judged → Type 0
+FileDemand3 L file j = Demand3 L (tickList file) (j .answer .number ≡ 20) (CompleteWith j) (λ string. dated string (j .ledger))

@@ -9,7 +9,7 @@ use Rattle.answer.specs.declared.Answer.{Answer}
 use Rattle.recording.specs.Choice.{if_then_else_}
 use Rattle.recording.specs.Form.{formOf}
 use Rattle.recording.specs.Refusals.{refusalNumber}
-use Rattle.recording.specs.Ticks.{stepsOf, ticksOf}
+use Rattle.recording.specs.Ticks.{stepsOf, ticks}
 use Rattle.recording.specs.declared.form.Form.{Form}
 use Rattle.recording.specs.declared.form.Form.the-variants.{Good, Refused}
 use Rattle.recording.specs.declared.step.Step.{Step}
@@ -22,25 +22,28 @@ use Rattle.transfer.specs.declared.lines.Lines.{Lines}
 use Rattle.transfer.specs.declared.phase.Byte.{Byte}
 use Rattle.transfer.specs.declared.verdict.Decision.{Decision}
 
--- The answer, and both lent buffers as they are left.
+-- What the judge leaves: an answer, and both lent buffers.
 pub record Judged : Type 0 where
   pub answer : Answer
   pub bytes : List ℕ
   pub ledger : List ℕ
 
-abbrev pub left : Answer → (bytes ledger : List ℕ) → Judged
-left answer bytes ledger = record { answer = answer; bytes = bytes; ledger = ledger }
+abbrev pub leaves : Answer → (bytes ledger : List ℕ) → Judged
+leaves answer bytes ledger = record { answer = answer; bytes = bytes; ledger = ledger }
 
--- Refusal 9: "byte buffer under 1,000 places, or ledger under 2,000".
+-- The places that refusal 9 asks for.
 abbrev pub byteRoom : ℕ
 byteRoom = 1000
 
 abbrev pub ledgerRoom : ℕ
 ledgerRoom = 2000
 
--- The tick list that a recording means: what each of its ticks shows.
+-- What each tick of some steps shows, and so the tick list that a recording means.
+abbrev pub tickLines : List Step → List Lines
+tickLines steps = map linesOf (ticks steps)
+
 abbrev pub tickList : (file : List ℕ) → List Lines
-tickList file = map linesOf (ticksOf file)
+tickList file = tickLines (stepsOf file)
 
 -- "The step holding" a tick. Where no step does, it is the number of steps: "22: total ticks and n".
 unfoldable pub stepHolding : (tick : ℕ) → List Step → ℕ
@@ -60,14 +63,15 @@ twoTicks (b ∷ bytes) = b .«let_go» ∷ b .take ∷ twoTicks bytes
 -- "The byte buffer begins with those; the ledger .. begins with two ticks for each byte .. All further places keep what they held."
 abbrev pub verdictLeft : List Step → Outcome → (bytes ledger : List ℕ) → Judged
 verdictLeft steps o bytes ledger =
-    left (verdictAnswer steps (o .decision) (length (o .bytes))) (values (o .bytes) over bytes) (twoTicks (o .bytes) over ledger)
+    leaves (verdictAnswer steps (o .decision) (length (o .bytes))) (values (o .bytes) over bytes) (twoTicks (o .bytes) over ledger)
 
 -- A recording whose form was tested. At a refusal "no lent byte or number changes".
 unfoldable pub judgedInForm : Limits → (file : List ℕ) → Form → (bytes ledger : List ℕ) → Judged
-judgedInForm L file (Refused refusal step) bytes ledger = left (refused (refusalNumber refusal) step) bytes ledger
+judgedInForm L file (Refused refusal step) bytes ledger = leaves (refused (refusalNumber refusal) step) bytes ledger
 judgedInForm L file (Good n) bytes ledger =
-    if ltb (length bytes) byteRoom then left (refused 9 0) bytes ledger else
-    if ltb (length ledger) ledgerRoom then left (refused 9 0) bytes ledger else
+    -- 9: "byte buffer under 1,000 places, or ledger under 2,000"
+    if ltb (length bytes) byteRoom then leaves (refused 9 0) bytes ledger else
+    if ltb (length ledger) ledgerRoom then leaves (refused 9 0) bytes ledger else
     verdictLeft (stepsOf file) (outcome L (tickList file)) bytes ledger
 
 unfoldable pub judged : Limits → (file bytes ledger : List ℕ) → Judged

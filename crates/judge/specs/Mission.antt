@@ -1,66 +1,66 @@
--- What the station stands on, a line each: proved of what the judge gives.
+-- What the station stands on, a line each: of what the judge gives for any recording and any lent buffers.
 use Prim.Native.Nat.{ℕ, suc, _<_, _≤_}
 use mathlib.Core.Path.{_≡_}
 use mathlib.Core.List.{List}
 use mathlib.Core.Logic.{_↔_}
-use lib.ListN.{take}
 use Rattle.answer.specs.Answers.{refused}
 use Rattle.answer.specs.declared.Answer.{Answer}
 use Rattle.recording.specs.Layout.{headerAt}
-use Rattle.recording.specs.Ticks.{totalTicks}
+use Rattle.recording.specs.Ticks.{stepsFrom, stepsOf, totalTicks}
 use Rattle.recording.specs.declared.step.Step.{Step}
-use Rattle.transfer.specs.Limits.{standardLimits}
+use Rattle.transfer.specs.Demand3.{Consistent}
 use Rattle.transfer.specs.Outcome.{stateAfter}
 use Rattle.transfer.specs.States.{firstState}
+use Rattle.transfer.specs.declared.limits.Limits.{Limits}
 use Rattle.transfer.specs.declared.phase.Phase.the-variants.{End}
-use Rattle.judge.specs.Judged.{Judged, left, stepHolding, judged, tickList}
+use Rattle.judge.specs.Judged.{Judged, leaves, judged, tickList}
 use Rattle.judge.specs.Demand3.{GoodWithRoom}
 
--- Of what the judge gives for a recording and two lent buffers:
-module _ (file bytes ledger : List ℕ) where
-  abbrev pub given : Judged
-  given = judged standardLimits file bytes ledger
+-- The numbers of the verdicts. Any other number that the judge gives is a refusal's.
+pub record IsVerdict (number : ℕ) : Type 0 where
+  pub least : 20 ≤ number
+  pub most : number ≤ 37
 
-  -- The stream of a recording is finished: the recording is of good form, with enough room lent, and runs out in phase E, whose first
-  -- tick is the finish tick.
+-- The step of a file that holds a tick: it has begun by then, and is not over.
+pub record Holds (file : List ℕ) (tick step : ℕ) : Type 0 where
+  pub begun : totalTicks (stepsFrom file 0 step) ≤ tick
+  pub not-over : tick < totalTicks (stepsFrom file 0 (suc step))
+
+-- "22: total ticks and n", both of them the header's.
+pub record AtTheEnd (file : List ℕ) (a : Answer) : Type 0 where
+  pub tick : a .tick ≡ headerAt file .total
+  pub step : a .step ≡ headerAt file .steps
+
+module _ (L : Limits) (file bytes ledger : List ℕ) where
+  -- What the judge gives.
+  abbrev pub given : Judged
+  given = judged L file bytes ledger
+
+  -- The stream is finished: the recording is of good form, with enough room lent, and runs out in phase E, whose first tick is the
+  -- finish tick.
   pub record Finished (finish : ℕ) : Type 0 where
     pub form : GoodWithRoom file bytes ledger
-    pub in-end : stateAfter standardLimits firstState (tickList file) .phase ≡ End finish
+    pub in-end : stateAfter L firstState (tickList file) .phase ≡ End finish
 
-  -- Nothing but a finished stream is ever 20, and its tick is the finish tick.
-  abbrev pub OnlyFinishedIs20 : Type 0
-  OnlyFinishedIs20 = given .answer .number ≡ 20 → Finished (given .answer .tick)
+  pub record Mission : Type 0 where
+    -- Nothing but a finished stream is ever 20, and its tick is the finish tick.
+    pub only-finished-is-20 : given .answer .number ≡ 20 → Finished (given .answer .tick)
+    -- A stream with no byte is never 20.
+    pub no-byte-is-never-20 : given .answer .number ≡ 20 → 1 ≤ given .answer .count
+    -- A well-formed recording of no steps, with room enough, is 22 at tick 0, step 0, and no place of lent memory changes.
+    pub no-steps-are-cut : (good : GoodWithRoom file bytes ledger) → good .steps ≡ 0
+        → given ≡ leaves (record { number = 22; tick = 0; step = 0; count = 0 }) bytes ledger
+    -- "Of good form, with enough room lent, if no refusal that the judge may give is due."
+    pub no-refusal-is-due : GoodWithRoom file bytes ledger ↔ IsVerdict (given .answer .number)
+    -- A refusal has tick 0 and count 0, "and no lent byte or number changes".
+    pub refusals-change-nothing : (IsVerdict (given .answer .number) → ⊥)
+        → given ≡ leaves (refused (given .answer .number) (given .answer .step)) bytes ledger
+    -- 22 is at the end of the recording.
+    pub cut-at-the-end : given .answer .number ≡ 22 → AtTheEnd file (given .answer)
+    -- Any other verdict "carries the deciding tick and the step holding it".
+    pub step-holds-tick : IsVerdict (given .answer .number) → (given .answer .number ≡ 22 → ⊥)
+        → Holds file (given .answer .tick) (given .answer .step)
 
-  -- A stream with no byte is never 20.
-  abbrev pub NoByteIsNever20 : Type 0
-  NoByteIsNever20 = given .answer .number ≡ 20 → 1 ≤ given .answer .count
-
-  -- A well-formed recording of no steps, with room enough, is 22 at tick 0, step 0, and no place of lent memory changes.
-  abbrev pub NoStepsAreCut : Type 0
-  NoStepsAreCut =
-      (good : GoodWithRoom file bytes ledger) → good .steps ≡ 0
-      → given ≡ left (record { number = 22; tick = 0; step = 0; count = 0 }) bytes ledger
-
-  -- The refusals are the numbers below 20: "of good form, with enough room lent, if no refusal that the judge may give is due".
-  abbrev pub NoRefusalIsDue : Type 0
-  NoRefusalIsDue = GoodWithRoom file bytes ledger ↔ (20 ≤ given .answer .number)
-
-  -- "Every refusal has tick 0 and count 0 .. and no lent byte or number changes."
-  abbrev pub RefusalsChangeNothing : Type 0
-  RefusalsChangeNothing = given .answer .number < 20 → given ≡ left (refused (given .answer .number) (given .answer .step)) bytes ledger
-
-  -- "22: total ticks and n", both of them the header's.
-  pub record AtTheEnd (a : Answer) : Type 0 where
-    pub tick : a .tick ≡ headerAt file .total
-    pub step : a .step ≡ headerAt file .steps
-
-  abbrev pub CutAtTheEnd : Type 0
-  CutAtTheEnd = given .answer .number ≡ 22 → AtTheEnd (given .answer)
-
--- "The step holding" a tick of the recording: it has begun by then, and is not over.
-pub record Holds (tick : ℕ) (steps : List Step) (i : ℕ) : Type 0 where
-  pub begun : totalTicks (take i steps) ≤ tick
-  pub not-over : tick < totalTicks (take (suc i) steps)
-
-abbrev pub HoldingLaw : Type 0
-HoldingLaw = (tick : ℕ) (steps : List Step) → tick < totalTicks steps → Holds tick steps (stepHolding tick steps)
+-- For all times that are consistent.
+abbrev pub MissionLaw : Type 0
+MissionLaw = (L : Limits) → Consistent L → (file bytes ledger : List ℕ) → Mission L file bytes ledger

@@ -1,22 +1,21 @@
 -- The reading of a recording as its functions go: what each of them promises to the entry.
 use Prim.Native.Nat.{ℕ, _+_, _*_, _≤_}
-use mathlib.Core.List.{List, map}
+use mathlib.Core.List.{List}
 use lib.Dec.{eqb}
 use lib.ListN.{length, set}
 use Rattle.answer.specs.Lent.{_over_}
 use Rattle.answer.specs.declared.Answer.{Answer}
 use Rattle.recording.specs.Choice.{if_then_else_}
 use Rattle.recording.specs.Layout.{mostSteps, fileLength}
-use Rattle.recording.specs.Ticks.{stepsFrom, ticks}
+use Rattle.recording.specs.Ticks.{stepsFrom}
 use Rattle.recording.specs.declared.step.Step.{Step}
-use Rattle.transfer.specs.Lines.{linesOf}
 use Rattle.transfer.specs.Outcome.{stateAfter, handedOver}
 use Rattle.transfer.specs.Pair.{values}
 use Rattle.transfer.specs.States.{firstState, decisionOf}
 use Rattle.transfer.specs.declared.limits.Limits.{Limits}
 use Rattle.transfer.specs.declared.lines.Lines.{Lines}
 use Rattle.transfer.specs.declared.state.State.{State}
-use Rattle.judge.specs.Judged.{byteRoom, ledgerRoom, twoTicks, verdictAnswer}
+use Rattle.judge.specs.Judged.{byteRoom, ledgerRoom, tickLines, twoTicks, verdictAnswer}
 
 -- The byte buffer and the ledger after a tick from s to t: the byte that it handed over, if it did, stands at its place.
 abbrev pub withByte : (bytes : List ℕ) (s t : State) → List ℕ
@@ -36,7 +35,7 @@ pub record Readable (file : List ℕ) (n : ℕ) (bytes ledger : List ℕ) : Type
 
 -- What each tick of the n steps from step i on shows.
 abbrev pub ticksFrom : (file : List ℕ) (i n : ℕ) → List Lines
-ticksFrom file i n = map linesOf (ticks (stepsFrom file i n))
+ticksFrom file i n = tickLines (stepsFrom file i n)
 
 -- A state of the reading, and both lent buffers with it.
 pub record Reached : Type 0 where

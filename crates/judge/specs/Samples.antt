@@ -8,7 +8,9 @@ use Rattle.answer.specs.declared.Answer.{Answer}
 use Rattle.recording.specs.FileOf.{fileOf}
 use Rattle.recording.specs.declared.step.Step.{Step}
 use Rattle.transfer.specs.Limits.{standardLimits}
-use Rattle.judge.specs.Judged.{Judged, left, judged}
+use Rattle.transfer.specs.Readings.{s1 as s1Spans}
+use Rattle.transfer.specs.Spans.{ticks}
+use Rattle.judge.specs.Judged.{Judged, leaves, tickLines, judged}
 
 -- A step, "as duration:lines".
 infix 90 _∶_
@@ -95,7 +97,7 @@ abbrev pub judgedSample : Sample → Judged
 judgedSample s = judged standardLimits (fileOf (s .steps)) markedBytes markedLedger
 
 abbrev pub expectedOf : Sample → Judged
-expectedOf s = left (s .answer) (s .bytes over markedBytes) (s .ledger over markedLedger)
+expectedOf s = leaves (s .answer) (s .bytes over markedBytes) (s .ledger over markedLedger)
 
 abbrev pub SamplesHold : Type 0
 SamplesHold = map judgedSample samples ≡ map expectedOf samples
@@ -123,3 +125,7 @@ s1File =
 
 abbrev pub S1Printed : Type 0
 S1Printed = fileOf s1 ≡ s1File
+
+-- Its steps mean the ticks that the crate transfer reads as S1.
+abbrev pub S1Ticks : Type 0
+S1Ticks = tickLines s1 ≡ ticks s1Spans

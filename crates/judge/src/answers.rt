@@ -29,7 +29,7 @@ fn step_holding(file: &[u8], steps: usize, tick: u32) -> u32
 }
 
 // The answer where the recording runs out, or a verdict fell, in this state.
-pub(crate) fn answer(file: &[u8], steps: usize, state: State) -> Answer
+pub(crate) fn state_answer(file: &[u8], steps: usize, state: State) -> Answer
     requires { ⌜ (steps ≤ mostSteps) × (fileLength steps ≤ length (now file)) ⌝ }
     ensures { λ r. ⌜ r ≡ stateAnswer (stepsFrom (now (file .entry)) 0 steps) state ⌝ }
 {

@@ -1,4 +1,4 @@
-// A byte that a tick hands over goes to its place in each lent buffer.
+// A byte that is handed over goes to its place in each lent buffer.
 ghost use mathlib.Core.Path.{_≡_};
 ghost use Prim.Native.Nat.{_+_, _*_, _<_};
 ghost use lib.ListN.{length};
@@ -6,7 +6,7 @@ ghost use Rattle.judge.specs.Reading.{withByte, withTicks};
 use transfer::State;
 
 // The byte's value, if the tick from `before` to `after` handed one over.
-pub(crate) fn put_byte(bytes: &mut [u8], before: State, after: State)
+pub(crate) fn store_byte(bytes: &mut [u8], before: State, after: State)
     requires { ⌜ before .count < length (now bytes) ⌝ }
     ensures { λ _. ⌜ now (bytes .exit) ≡ withByte (now (bytes .entry)) before after ⌝ }
 {
@@ -17,15 +17,15 @@ pub(crate) fn put_byte(bytes: &mut [u8], before: State, after: State)
     }
 }
 
-// Its two ticks.
-pub(crate) fn put_ticks(ledger: &mut [u32], before: State, after: State)
+// The byte's two ticks, likewise.
+pub(crate) fn store_ticks(ledger: &mut [u32], before: State, after: State)
     requires { ⌜ 2 * before .count + 1 < length (now ledger) ⌝ }
     ensures { λ _. ⌜ now (ledger .exit) ≡ withTicks (now (ledger .entry)) before after ⌝ }
 {
     if after.count != before.count {
         let place = 2 * (before.count as usize);
-        let byte = after.handed;
-        ledger[place] = byte.let_go;
-        ledger[place + 1] = byte.take;
+        let dated = after.handed;
+        ledger[place] = dated.let_go;
+        ledger[place + 1] = dated.take;
     }
 }

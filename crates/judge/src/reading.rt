@@ -7,7 +7,7 @@ use transfer::Limits;
 use transfer::Lines;
 use transfer::State;
 
-// The state after the last tick, or at the deciding one. Each byte and its two ticks are put down as they are handed over.
+// The state after the last tick, or at the deciding one. Each byte and its two ticks are stored as they are handed over.
 pub(crate) fn read(
     file: &[u8],
     steps: usize,
@@ -28,8 +28,8 @@ pub(crate) fn read(
         let mut passed: u16 = 0;
         while passed < duration {
             let next = state.next(limits, lines);
-            handed::put_byte(bytes, state, next);
-            handed::put_ticks(ledger, state, next);
+            handed::store_byte(bytes, state, next);
+            handed::store_ticks(ledger, state, next);
             state = next;
             if next.is_decided() {
                 break 'steps;

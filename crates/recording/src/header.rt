@@ -49,7 +49,7 @@ impl Header {
     }
 
     // The header of a recording of so many steps and ticks.
-    pub fn good(steps: u16, total: u32) -> Header
+    pub fn of_steps(steps: u16, total: u32) -> Header
         requires { ⌜ steps ≤ mostSteps ⌝ }
         ensures { λ r. ⌜ r ≡ goodHeader steps total ⌝ }
     {

@@ -9,7 +9,7 @@ use Rattle.transfer.specs.Outcome.{Outcome, outcome}
 use Rattle.transfer.specs.Parties.{Pulls, pulls, track}
 use Rattle.transfer.specs.Pair.{SenderPulls, senderPulls, receiverPulls, gives, values, SameOrLater}
 use Rattle.transfer.specs.Shown.{shown}
-use Rattle.transfer.specs.Demand3.{Consistent, CompleteWith, shownSender, shownReceiver, Explains, Explained, Demand3}
+use Rattle.transfer.specs.Demand3.{Consistent, CompleteWith, shownSender, shownReceiver, Explains, Explained, OutcomeDemand3}
 use Rattle.transfer.specs.Demand3.{Demand3Law}
 use Rattle.transfer.specs.Demand3.{StandardDemand3}
 use Rattle.transfer.specs.declared.limits.Limits.{Limits}
@@ -52,7 +52,7 @@ module _ (L : Limits) (times : Consistent L) (w : List Lines) where
       (back L times w (ap (λ (o : Outcome). o .decision .verdict) (sym (outcome-is L w)) ∙ e))
 
   shows-pair : (string : List ℕ) → CompleteWith L w string
-      → Explains L w string (shownSender L w) (shownReceiver L w) (outcome L w .bytes)
+      → Explains L w string (shownSender (outcome L w .bytes) w) (shownReceiver (outcome L w .bytes) w) (outcome L w .bytes)
   shows-pair string c =
       let p = planned (c .verdict) in
       let e : shown (outcome L w .bytes) w ≡ track (p .plan) =
@@ -72,7 +72,12 @@ module _ (L : Limits) (times : Consistent L) (w : List Lines) where
 
   explained : (string : List ℕ) → CompleteWith L w string → Explained L w string
   explained string c =
-      record { sender = shownSender L w; receiver = shownReceiver L w; dated = outcome L w .bytes; explains = shows-pair string c }
+      record {
+        sender = shownSender (outcome L w .bytes) w;
+        receiver = shownReceiver (outcome L w .bytes) w;
+        dated = outcome L w .bytes;
+        explains = shows-pair string c;
+      }
 
   complete : (string : List ℕ) → Explained L w string → CompleteWith L w string
   complete string x =
@@ -84,7 +89,7 @@ module _ (L : Limits) (times : Consistent L) (w : List Lines) where
             ∙ sym (p .string-is);
       }
 
-  explains-all : Demand3 L w
+  explains-all : OutcomeDemand3 L w
   explains-all =
       record {
         exactly = λ string. (explained string, complete string);

@@ -1,7 +1,8 @@
--- Why it holds. The crate above cites TickLaws, Room and Demand3.
+-- Why it holds. The crates above cite TickLaws, DecisionTicks, Room, Demand3 and Facts, and the writer's read-back the proofs along a plan.
 pub mod Tests
 pub mod Rows
 pub mod Run
+pub mod DecisionTicks
 pub mod TickLaws
 pub mod Room
 pub mod HandoverTicks

@@ -34,11 +34,11 @@ module _ (L : Limits) where
   -- One tick that shows l, and then the rest.
   module _ (l : Lines) (w : List Lines) (n now : ℕ)
       (rest : (q : Phase) → settled q (l .clk) (l .«data») ≡ true → 19 * handed (suc now) q w ≤ n + place q) where
-    one-move : {most : ℕ} (x : Move) → Climbs most (l .clk) (l .«data») x
+    one-move : {most late : ℕ} (x : Move) → Climbs most late (l .clk) (l .«data») x
         → 19 * length (onward x now (λ (q : Phase). run L (suc now) q w) .bytes) ≤ n + most
     one-move (Stop f) stops = omega arith
-    one-move (Go q) (goes a e) = omega (arith, rest q e)
-    one-move (Hand b q) (hands a e) = omega (arith, rest q e)
+    one-move (Go q) (goes a f e) = omega (arith, rest q e)
+    one-move (Hand b q) (hands a f e) = omega (arith, rest q e)
 
     one-tick : (p : Phase) → 19 * handed now p (l ∷ w) ≤ n + (place p + further (settled p (l .clk) (l .«data»)))
     unfolding run

@@ -1,6 +1,6 @@
 -- One walk over the rows of the table: how far each has come with its byte, and which lines it settles in. A row that goes on leads
 -- to a phase that its own lines keep, so that no row leads to `Decided`, and it comes one place further at most, not at all where
--- the lines stay. Assumes nothing.
+-- the lines stay. Where it leads to the end, the finish tick is the tick itself or the one that stood. Assumes nothing.
 use Prim.Native.Nat.{ℕ, zero, suc, _+_, _-_, _*_, _≤_}
 use native.Mathlib.Omega.{arith}
 use mathlib.Core.Path.{_≡_, refl}
@@ -54,74 +54,108 @@ abbrev pub further : Bool → ℕ
 further true = 0
 further false = 1
 
-pub data Climbs (most : ℕ) (c d : Bool) : Move → Type 0 where
-  stops : {f : Fault} → Climbs most c d (Stop f)
-  goes : {p : Phase} → place p ≤ most → settled p c d ≡ true → Climbs most c d (Go p)
-  hands : {b : Byte} {p : Phase} → 19 + place p ≤ most → settled p c d ≡ true → Climbs most c d (Hand b p)
+-- The tick after the finish tick, for the end; and the latest that a row can lead to at tick `now`.
+abbrev pub finished : Phase → ℕ
+finished Start = 0
+finished FirstHold = 0
+finished (Hold byte mark) = 0
+finished (ReadyToSend any ended) = 0
+finished (ReadyForData any since) = 0
+finished (Acknowledgement any ready since) = 0
+finished (Acknowledged any ready since) = 0
+finished (SetUp mark left value since last) = 0
+finished (Valid mark left value since bit) = 0
+finished (Open mark value since let-go) = 0
+finished (Carried mark value since) = 0
+finished (End finish) = suc finish
+finished (Decided fault) = 0
 
-on : {most : ℕ} {c d : Bool} (p : Phase) → place p ≤ most → settled p c d ≡ true → Climbs most c d (Go p)
-on p a b = goes a b
+abbrev pub latest : Phase → (now : ℕ) → ℕ
+latest Start now = suc now
+latest FirstHold now = suc now
+latest (Hold byte mark) now = suc now
+latest (ReadyToSend any ended) now = suc now
+latest (ReadyForData any since) now = suc now
+latest (Acknowledgement any ready since) now = suc now
+latest (Acknowledged any ready since) now = suc now
+latest (SetUp mark left value since last) now = suc now
+latest (Valid mark left value since bit) now = suc now
+latest (Open mark value since let-go) now = suc now
+latest (Carried mark value since) now = suc now
+latest (End finish) now = suc finish
+latest (Decided fault) now = suc now
 
-over : {most : ℕ} {c d : Bool} (b : Byte) (p : Phase) → 19 + place p ≤ most → settled p c d ≡ true → Climbs most c d (Hand b p)
-over b p a e = hands a e
+pub data Climbs (most late : ℕ) (c d : Bool) : Move → Type 0 where
+  stops : {f : Fault} → Climbs most late c d (Stop f)
+  goes : {p : Phase} → place p ≤ most → finished p ≤ late → settled p c d ≡ true → Climbs most late c d (Go p)
+  hands : {b : Byte} {p : Phase} → 19 + place p ≤ most → finished p ≤ late → settled p c d ≡ true → Climbs most late c d (Hand b p)
 
-module _ {most : ℕ} {c d : Bool} where
-  either : (t : Bool) (x y : Move) → Climbs most c d x → Climbs most c d y → Climbs most c d (if t then x else y)
+module _ {most late : ℕ} {c d : Bool} where
+  on : (p : Phase) → place p ≤ most → finished p ≤ late → settled p c d ≡ true → Climbs most late c d (Go p)
+  on p a f e = goes a f e
+
+  over : (b : Byte) (p : Phase) → 19 + place p ≤ most → finished p ≤ late → settled p c d ≡ true → Climbs most late c d (Hand b p)
+  over b p a f e = hands a f e
+
+  either : (t : Bool) (x y : Move) → Climbs most late c d x → Climbs most late c d y → Climbs most late c d (if t then x else y)
   either true x y p q = p
   either false x y p q = q
 
-  if-below : (n s now : ℕ) (x y : Move) → Climbs most c d x → Climbs most c d y → Climbs most c d (if below n s now then x else y)
+  if-below : (n s now : ℕ) (x y : Move) → Climbs most late c d x → Climbs most late c d y
+      → Climbs most late c d (if below n s now then x else y)
   if-below n s now x y p q = either (below n s now) x y p q
 
-  if-upTo : (n s now : ℕ) (x y : Move) → Climbs most c d x → Climbs most c d y → Climbs most c d (if upTo n s now then x else y)
+  if-upTo : (n s now : ℕ) (x y : Move) → Climbs most late c d x → Climbs most late c d y
+      → Climbs most late c d (if upTo n s now then x else y)
   if-upTo n s now x y p q = either (upTo n s now) x y p q
 
-  if-same : (a b : Bool) (x y : Move) → Climbs most c d x → Climbs most c d y → Climbs most c d (if same a b then x else y)
+  if-same : (a b : Bool) (x y : Move) → Climbs most late c d x → Climbs most late c d y → Climbs most late c d (if same a b then x else y)
   if-same a b x y p q = either (same a b) x y p q
 
 module _ (L : Limits) where
-  pub climbs : (now : ℕ) (p : Phase) (c d : Bool) → Climbs (place p + further (settled p c d)) c d (next L now p c d)
+  pub climbs : (now : ℕ) (p : Phase) (c d : Bool) → Climbs (place p + further (settled p c d)) (latest p now) c d (next L now p c d)
   unfolding next handover afterBit
   climbs now Start false d = either (eqb now 0) _ _ stops stops
-  climbs now Start true true = on _ (omega arith) refl
-  climbs now Start true false = if-below _ _ _ _ _ (on _ (omega arith) refl) stops
-  climbs now FirstHold true true = on _ (omega arith) refl
-  climbs now FirstHold false true = on _ (omega arith) refl
+  climbs now Start true true = on _ (omega arith) (omega arith) refl
+  climbs now Start true false = if-below _ _ _ _ _ (on _ (omega arith) (omega arith) refl) stops
+  climbs now FirstHold true true = on _ (omega arith) (omega arith) refl
+  climbs now FirstHold false true = on _ (omega arith) (omega arith) refl
   climbs now FirstHold true false = stops
   climbs now FirstHold false false = stops
-  climbs now (Hold byte mark) true true = on _ (omega arith) refl
-  climbs now (Hold byte mark) false true = if-below _ _ _ _ _ stops (over _ _ (omega arith) refl)
+  climbs now (Hold byte mark) true true = on _ (omega arith) (omega arith) refl
+  climbs now (Hold byte mark) false true = if-below _ _ _ _ _ stops (over _ _ (omega arith) (omega arith) refl)
   climbs now (Hold byte mark) true false = stops
   climbs now (Hold byte mark) false false = stops
-  climbs now (ReadyToSend any ended) false true = on _ (omega arith) refl
-  climbs now (ReadyToSend any false) false false = on _ (omega arith) refl
-  climbs now (ReadyToSend any true) false false = on _ (omega arith) refl
+  climbs now (ReadyToSend any ended) false true = on _ (omega arith) (omega arith) refl
+  climbs now (ReadyToSend any false) false false = on _ (omega arith) (omega arith) refl
+  climbs now (ReadyToSend any true) false false = on _ (omega arith) (omega arith) refl
   climbs now (ReadyToSend any ended) true d = stops
-  climbs now (ReadyForData any since) true d = if-below _ _ _ _ _ (on _ (omega arith) refl) stops
-  climbs now (ReadyForData any since) false true = if-below _ _ _ _ _ stops (on _ (omega arith) refl)
-  climbs now (ReadyForData any since) false false = if-below _ _ _ _ _ (on _ (omega arith) refl) stops
+  climbs now (ReadyForData any since) true d = if-below _ _ _ _ _ (on _ (omega arith) (omega arith) refl) stops
+  climbs now (ReadyForData any since) false true = if-below _ _ _ _ _ stops (on _ (omega arith) (omega arith) refl)
+  climbs now (ReadyForData any since) false false = if-below _ _ _ _ _ (on _ (omega arith) (omega arith) refl) stops
   climbs now (Acknowledgement any ready since) true d = stops
-  climbs now (Acknowledgement any ready since) false true = if-below _ _ _ _ _ (on _ (omega arith) refl) stops
-  climbs now (Acknowledgement any ready since) false false = if-below _ _ _ _ _ stops (on _ (omega arith) refl)
+  climbs now (Acknowledgement any ready since) false true = if-below _ _ _ _ _ (on _ (omega arith) (omega arith) refl) stops
+  climbs now (Acknowledgement any ready since) false false = if-below _ _ _ _ _ stops (on _ (omega arith) (omega arith) refl)
   climbs now (Acknowledged any ready since) false true = stops
-  climbs now (Acknowledged any ready since) true d = if-upTo _ _ _ _ _ (on _ (omega arith) refl) stops
-  climbs now (Acknowledged any ready since) false false = if-below _ _ _ _ _ (on _ (omega arith) refl) (either any _ _ stops stops)
-  climbs now (SetUp mark left value since last) true d = if-below _ _ _ _ _ (on _ (omega arith) refl) stops
-  climbs now (SetUp mark left value since last) false d = if-same _ _ _ _ (on _ (omega arith) refl) stops
+  climbs now (Acknowledged any ready since) true d = if-upTo _ _ _ _ _ (on _ (omega arith) (omega arith) refl) stops
+  climbs now (Acknowledged any ready since) false false =
+      if-below _ _ _ _ _ (on _ (omega arith) (omega arith) refl) (either any _ _ stops stops)
+  climbs now (SetUp mark left value since last) true d = if-below _ _ _ _ _ (on _ (omega arith) (omega arith) refl) stops
+  climbs now (SetUp mark left value since last) false d = if-same _ _ _ _ (on _ (omega arith) (omega arith) refl) stops
   climbs now (Valid mark left value since bit) false d =
-      if-same _ _ _ _ (if-below _ _ _ _ _ (on _ (omega arith) refl) stops) stops
-  climbs now (Valid mark (suc left) value since bit) true d = if-below _ _ _ _ _ stops (on _ (omega arith) refl)
-  climbs now (Valid mark zero value since bit) true false = if-below _ _ _ _ _ stops (on _ (omega arith) refl)
-  climbs now (Valid mark zero value since true) true true = if-below _ _ _ _ _ stops (on _ (omega arith) refl)
+      if-same _ _ _ _ (if-below _ _ _ _ _ (on _ (omega arith) (omega arith) refl) stops) stops
+  climbs now (Valid mark (suc left) value since bit) true d = if-below _ _ _ _ _ stops (on _ (omega arith) (omega arith) refl)
+  climbs now (Valid mark zero value since bit) true false = if-below _ _ _ _ _ stops (on _ (omega arith) (omega arith) refl)
+  climbs now (Valid mark zero value since true) true true = if-below _ _ _ _ _ stops (on _ (omega arith) (omega arith) refl)
   climbs now (Valid mark zero value since false) true true = if-below _ _ _ _ _ stops stops
   climbs now (Open mark value since let-go) false d = stops
-  climbs now (Open mark value since let-go) true false = if-below _ _ _ _ _ (on _ (omega arith) refl) stops
-  climbs now (Open mark value since let-go) true true = on _ (omega arith) refl
+  climbs now (Open mark value since let-go) true false = if-below _ _ _ _ _ (on _ (omega arith) (omega arith) refl) stops
+  climbs now (Open mark value since let-go) true true = on _ (omega arith) (omega arith) refl
   climbs now (Carried mark value since) false false = stops
-  climbs now (Carried mark value since) true true = on _ (omega arith) refl
-  climbs now (Carried mark value since) true false = if-upTo _ _ _ _ _ (on _ (omega arith) refl) stops
-  climbs now (Carried mark value since) false true = if-upTo _ _ _ _ _ stops (over _ _ (omega arith) refl)
-  climbs now (End finish) false false = on _ (omega arith) refl
+  climbs now (Carried mark value since) true true = on _ (omega arith) (omega arith) refl
+  climbs now (Carried mark value since) true false = if-upTo _ _ _ _ _ (on _ (omega arith) (omega arith) refl) stops
+  climbs now (Carried mark value since) false true = if-upTo _ _ _ _ _ stops (over _ _ (omega arith) (omega arith) refl)
+  climbs now (End finish) false false = on _ (omega arith) (omega arith) refl
   climbs now (End finish) false true = stops
   climbs now (End finish) true d = stops
   climbs now (Decided fault) c d = stops

@@ -50,7 +50,7 @@ abbrev pub lines : (clk dat : Bool) → Lines
 lines c d = record { atn = false; clk = c; «data» = d }
 
 -- A phase that some lines settle is not decided.
-undecided : (p : Phase) (c d : Bool) → settled p c d ≡ true → isDecided p ≡ false
+pub undecided : (p : Phase) (c d : Bool) → settled p c d ≡ true → isDecided p ≡ false
 undecided Start c d e = refl
 undecided FirstHold c d e = refl
 undecided (Hold byte mark) c d e = refl
@@ -107,11 +107,11 @@ module _ (L : Limits) where
         ih (record { phase = p; tick = s .tick + 1; count = n; handed = b }) (undecided p c d e)
         ∙ ap (λ (t : ℕ). run L t p w) (add-one (s .tick))
 
-    moved : {most : ℕ} {c d : Bool} (x : Move) → Climbs most c d x → past s (follow s x) w ≡ onward x (s .tick) beyond
+    moved : {most late : ℕ} {c d : Bool} (x : Move) → Climbs most late c d x → past s (follow s x) w ≡ onward x (s .tick) beyond
     unfolding follow
     moved (Stop f) stops = stopped f s w
-    moved {c = c} {d = d} (Go p) (goes a e) = none-handed s (follow s (Go p)) w refl ∙ next-run p _ _ c d e
-    moved {c = c} {d = d} (Hand b p) (hands a e) =
+    moved {c = c} {d = d} (Go p) (goes a f e) = none-handed s (follow s (Go p)) w refl ∙ next-run p _ _ c d e
+    moved {c = c} {d = d} (Hand b p) (hands a f e) =
         one-handed s (follow s (Hand b p)) w (λ z. omega (arith, z)) ∙ ap (give b) (next-run p _ _ c d e)
 
     by-atn : (u : isDecided (s .phase) ≡ false) (l : Lines) (a : Bool) → l .atn ≡ a

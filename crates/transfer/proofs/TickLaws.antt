@@ -1,9 +1,9 @@
 -- What a loop over the ticks keeps. Assumes nothing.
 use Prim.Native.Nat.{_+_}
 use native.Mathlib.Omega.{arith}
-use mathlib.Core.Path.{_≡_, refl, sym, ap, _∙_}
-use mathlib.Core.Bool.{Bool, true, false, true≢false}
-use mathlib.Core.List.{List, [], _∷_, _++_}
+use mathlib.Core.Path.{_≡_, refl, ap, _∙_}
+use mathlib.Core.Bool.{Bool, true, false}
+use mathlib.Core.List.{[], _∷_, _++_}
 use lib.Dec.{eqb}
 use lib.ListN.{length}
 use borrow.Author.Tests.{eqb-true, eqb-false, eq-eqb}
@@ -11,7 +11,7 @@ use Rattle.transfer.specs.Choice.{if_then_else_}
 use Rattle.transfer.specs.Phases.{Move, Go, Hand, Stop}
 use Rattle.transfer.specs.States.{follow, nextState, readIn, isDecided}
 use Rattle.transfer.specs.Outcome.{stateAfter, handedIn, handedOver}
-use Rattle.transfer.specs.TickLaws.{OneTick, OneTickLaw, CountLaw, PassedLaw, StandsLaw}
+use Rattle.transfer.specs.TickLaws.{OneTick, OneTickLaw, CountLaw, StandsLaw}
 use Rattle.transfer.specs.declared.limits.Limits.{Limits}
 use Rattle.transfer.specs.declared.lines.Lines.{Lines}
 use Rattle.transfer.specs.declared.state.State.{State}
@@ -62,35 +62,3 @@ stands L s (l ∷ w) u =
           ap (λ (t : State). handedIn s t ++ handedOver L t w) same
           ∙ rw (eq-eqb (s .count) (s .count) refl) (rest .bytes);
     }
-
--- A tick that decides nothing is passed.
-move-passed : (s : State) (x : Move) → isDecided (follow s x .phase) ≡ false → follow s x .tick ≡ s .tick + 1
-unfolding follow
-move-passed s (Go p) u = refl
-move-passed s (Hand b p) u = refl
-move-passed s (Stop f) u = absurd (true≢false u)
-
-tick-passed : (L : Limits) (s : State) (l : Lines) → isDecided (nextState L s l .phase) ≡ false → nextState L s l .tick ≡ s .tick + 1
-unfolding nextState
-tick-passed L s l = by-test (isDecided (s .phase)) (l .atn) refl
-  where
-    by-test : (u a : Bool) → isDecided (s .phase) ≡ u
-        → isDecided ((if u then s else if a then follow s (Stop Attention) else readIn L s (s .phase) l) .phase) ≡ false
-        → (if u then s else if a then follow s (Stop Attention) else readIn L s (s .phase) l) .tick ≡ s .tick + 1
-    by-test true a e u = absurd (true≢false (sym e ∙ u))
-    by-test false true e u = move-passed s (Stop Attention) u
-    by-test false false e u = move-passed s _ u
-
--- What is undecided in the end was never decided.
-undecided : (L : Limits) (s : State) (w : List Lines) (t : Bool) → isDecided (s .phase) ≡ t → isDecided (stateAfter L s w .phase) ≡ false
-    → t ≡ false
-undecided L s w true e u = absurd (true≢false (sym e ∙ ap (λ (x : State). isDecided (x .phase)) (sym (stands L s w e .state)) ∙ u))
-undecided L s w false e u = refl
-
-pub passes : PassedLaw
-unfolding stateAfter
-passes L [] s u = omega arith
-passes L (l ∷ w) s u =
-    let rest = passes L w (nextState L s l) u in
-    let one = tick-passed L s l (undecided L (nextState L s l) w _ refl u) in
-    omega arith

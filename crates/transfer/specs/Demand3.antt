@@ -35,23 +35,14 @@ pub record Consistent (L : Limits) : Type 0 where
   pub keep-take : L .«keep_most» < L .«take_latest»
   pub keep-release : L .«keep_most» ≤ L .«between_bytes»
 
+-- The tracks of "the shown pair": "read off the recording and the ledger".
+abbrev pub shownSender : (ledger : List Byte) → List Lines → List SenderPulls
+shownSender ledger w = map senderPulls (shown ledger w)
+
+abbrev pub shownReceiver : (ledger : List Byte) → List Lines → List Bool
+shownReceiver ledger w = map receiverPulls (shown ledger w)
+
 module _ (L : Limits) (w : List Lines) where
-  -- The bytes handed over with their ticks: the ledger.
-  abbrev pub ledger : List Byte
-  ledger = outcome L w .bytes
-
-  -- "Complete with a string".
-  pub record CompleteWith (string : List ℕ) : Type 0 where
-    pub verdict : outcome L w .decision .verdict ≡ Complete
-    pub bytes : values ledger ≡ string
-
-  -- The tracks of "the shown pair".
-  abbrev pub shownSender : List SenderPulls
-  shownSender = map senderPulls (shown ledger w)
-
-  abbrev pub shownReceiver : List Bool
-  shownReceiver = map receiverPulls (shown ledger w)
-
   -- Two tracks are a pair for the string, dated so, and give the tick list.
   pub record Explains (string : List ℕ) (sender : List SenderPulls) (receiver : List Bool) (dated : List Byte) : Type 0 where
     pub pair : Pair L string sender receiver dated
@@ -64,20 +55,32 @@ module _ (L : Limits) (w : List Lines) where
     pub dated : List Byte
     pub explains : Explains string sender receiver dated
 
-  pub record Demand3 : Type 0 where
-    -- Complete with a string exactly if a pair for it gives the ticks.
-    pub exactly : (string : List ℕ) → CompleteWith string ↔ Explained string
+  -- Demand 3 of a judgement of the tick list. It is said of whatever a judgement leaves: `passes` is that it is complete, `complete` that
+  -- it is "complete with a string", and `ledger` has that string's bytes, each with its two ticks.
+  pub record Demand3 (passes : Type 0) (complete : List ℕ → Type 0) (ledger : List ℕ → List Byte) : Type 0 where
+    -- Complete with a string exactly if a pair for it gives the recording.
+    pub exactly : (string : List ℕ) → complete string ↔ Explained string
     -- The shown pair "is a pair for the string, it gives the recording, and its two ticks for each byte are the ledger's".
-    pub shown-pair : (string : List ℕ) → CompleteWith string → Explains string shownSender shownReceiver ledger
+    pub shown-pair : (string : List ℕ) → complete string
+        → Explains string (shownSender (ledger string) w) (shownReceiver (ledger string) w) (ledger string)
     -- "Every other pair that gives the recording has, at each of the two places of each byte, that tick or a later one."
     pub earliest : (string : List ℕ) (sender : List SenderPulls) (receiver : List Bool) (dated : List Byte)
-        → Explains string sender receiver dated → SameOrLater ledger dated
+        → Explains string sender receiver dated → SameOrLater (ledger string) dated
     -- If no pair exists for any string, it is never complete.
-    pub never : ((string : List ℕ) → Explained string → ⊥) → outcome L w .decision .verdict ≡ Complete → ⊥
+    pub never : ((string : List ℕ) → Explained string → ⊥) → passes → ⊥
 
--- Demand 3 for every tick list and all times that are consistent; and at document 01's own.
+  -- "Complete with a string", of the outcome of the tick list.
+  pub record CompleteWith (string : List ℕ) : Type 0 where
+    pub verdict : outcome L w .decision .verdict ≡ Complete
+    pub bytes : values (outcome L w .bytes) ≡ string
+
+  -- Demand 3 of the outcome.
+  abbrev pub OutcomeDemand3 : Type 0
+  OutcomeDemand3 = Demand3 (outcome L w .decision .verdict ≡ Complete) CompleteWith (λ string. outcome L w .bytes)
+
+-- For every tick list and all times that are consistent; and at document 01's own.
 abbrev pub Demand3Law : Type 0
-Demand3Law = (L : Limits) → Consistent L → (w : List Lines) → Demand3 L w
+Demand3Law = (L : Limits) → Consistent L → (w : List Lines) → OutcomeDemand3 L w
 
 abbrev pub StandardDemand3 : Type 0
-StandardDemand3 = (w : List Lines) → Demand3 standardLimits w
+StandardDemand3 = (w : List Lines) → OutcomeDemand3 standardLimits w

@@ -1,14 +1,15 @@
 -- What a loop over the ticks keeps.
-use Prim.Native.Nat.{_+_, _≤_}
+use Prim.Native.Nat.{_+_, _<_, _≤_}
 use mathlib.Core.Path.{_≡_}
-use mathlib.Core.Bool.{true, false}
+use mathlib.Core.Bool.{true}
 use mathlib.Core.List.{List, []}
 use lib.ListN.{length}
 use Rattle.transfer.specs.States.{nextState, isDecided}
-use Rattle.transfer.specs.Outcome.{stateAfter, handedOver}
+use Rattle.transfer.specs.Outcome.{stateAfter, handedOver, outcome}
 use Rattle.transfer.specs.declared.limits.Limits.{Limits}
 use Rattle.transfer.specs.declared.lines.Lines.{Lines}
 use Rattle.transfer.specs.declared.state.State.{State}
+use Rattle.transfer.specs.declared.verdict.Verdict.the-variants.{Cut}
 
 -- One tick passes one tick at most, and counts one byte at most.
 pub record OneTick (s t : State) : Type 0 where
@@ -23,12 +24,6 @@ OneTickLaw = (L : Limits) (s : State) (l : Lines) → OneTick s (nextState L s l
 abbrev pub CountLaw : Type 0
 CountLaw = (L : Limits) (w : List Lines) (s : State) → stateAfter L s w .count ≡ s .count + length (handedOver L s w)
 
--- A tick that decides nothing is passed, so a recording that runs out undecided has its total of ticks as its tick.
-abbrev pub PassedLaw : Type 0
-PassedLaw =
-    (L : Limits) (w : List Lines) (s : State) → isDecided (stateAfter L s w .phase) ≡ false
-    → stateAfter L s w .tick ≡ s .tick + length w
-
 -- "Stops for good": no tick changes a decided state or hands a byte over, so a loop may leave at the deciding tick.
 pub record Stands (L : Limits) (s : State) (w : List Lines) : Type 0 where
   pub state : stateAfter L s w ≡ s
@@ -36,3 +31,11 @@ pub record Stands (L : Limits) (s : State) (w : List Lines) : Type 0 where
 
 abbrev pub StandsLaw : Type 0
 StandsLaw = (L : Limits) (s : State) (w : List Lines) → isDecided (s .phase) ≡ true → Stands L s w
+
+-- "20: the finish tick; 22: total ticks", any other verdict the deciding tick: all but 22's are ticks that were read.
+pub record DecisionTick (L : Limits) (w : List Lines) : Type 0 where
+  pub cut : outcome L w .decision .verdict ≡ Cut → outcome L w .decision .tick ≡ length w
+  pub inside : (outcome L w .decision .verdict ≡ Cut → ⊥) → outcome L w .decision .tick < length w
+
+abbrev pub DecisionTickLaw : Type 0
+DecisionTickLaw = (L : Limits) (w : List Lines) → DecisionTick L w

@@ -5,7 +5,7 @@ use mathlib.Core.Path.{_≡_, refl, sym, ap, _∙_}
 use native.Mathlib.Omega.{arith}
 use lib.ListN.{length}
 use Rattle.writer.specs.WrittenSteps.{shows, bitSteps}
-use Rattle.writer.specs.Pieces.{withSteps, Put}
+use Rattle.writer.specs.Put.{withSteps, Put}
 use Rattle.writer.specs.declared.card.Card.{Card}
 use Rattle.writer.proofs.PieceLaws.{goes-on, and-then, no-steps}
 

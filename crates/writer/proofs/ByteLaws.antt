@@ -5,8 +5,8 @@ use mathlib.Core.Path.{_≡_, refl, _∙_}
 use native.Mathlib.Omega.{arith}
 use lib.ListN.{length, length-append}
 use Rattle.recording.specs.declared.step.Step.{Step}
-use Rattle.writer.specs.WrittenSteps.{byteSteps, endGap, closing, sentSteps}
-use Rattle.writer.specs.Pieces.{Put, opening, valueSteps}
+use Rattle.writer.specs.WrittenSteps.{byteSteps, endGap, closing, sentSteps, opening, valueSteps}
+use Rattle.writer.specs.Put.{Put}
 use Rattle.writer.specs.declared.card.Card.{Card}
 use Rattle.writer.proofs.BitLaws.{bits-count}
 

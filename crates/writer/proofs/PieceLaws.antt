@@ -10,7 +10,7 @@ use Rattle.recording.specs.FileOf.{stepBytes, stepsBytes}
 use Rattle.recording.specs.declared.step.Step.{Step}
 use Rattle.recording.proofs.SetsLaws.{sets-append}
 use Rattle.recording.proofs.FileOfLaws.{steps-append, steps-length}
-use Rattle.writer.specs.Pieces.{withSteps, Put}
+use Rattle.writer.specs.Put.{withSteps, Put}
 
 -- One step, as `Step::write` puts it down.
 pub one-step : (d d₁ : List ℕ) (i : ℕ) (s : Step) → d₁ ≡ sets d (stepPlace i) (stepBytes s) → Put d d₁ i (i + 1) (s ∷ [])

@@ -1,28 +1,25 @@
 -- Demand 2: what the writer put down is read back. Assumes nothing.
 use Prim.Native.Nat.{ℕ, _≤_}
-use mathlib.Core.List.{List, [], _∷_, map}
-use mathlib.Core.Path.{_≡_, refl, sym, ap, subst, subst⁻¹, _∙_}
+use mathlib.Core.List.{List, [], _∷_}
+use mathlib.Core.Path.{refl, sym, ap, subst⁻¹, _∙_}
 use native.Mathlib.Omega.{arith}
-use lib.ListN.{length, take}
-use lib.Seq.{take-append-seam}
+use lib.ListN.{length}
 use Rattle.answer.specs.Lent.{_over_}
-use Rattle.recording.specs.FileOf.{FileOf, fileOf}
+use Rattle.recording.specs.FileOf.{FileOf}
 use Rattle.recording.specs.GoodForm.{Bytes}
-use Rattle.recording.specs.Ticks.{stepsOf, ticks, ticksOf}
+use Rattle.recording.specs.Ticks.{stepsOf}
 use Rattle.recording.specs.declared.step.Step.{Step}
 use Rattle.recording.proofs.FileOfLaws.{file-of, file-length}
 use Rattle.recording.proofs.GoodFormLaws.{good-form}
-use Rattle.transfer.specs.Demand3.{CompleteWith}
 use Rattle.transfer.specs.Limits.{standardLimits}
-use Rattle.transfer.specs.Lines.{linesOf}
 use Rattle.transfer.specs.Outcome.{Outcome, outcome}
 use Rattle.transfer.specs.Verdicts.{verdictNumber}
-use Rattle.judge.specs.Judged.{Judged, tickList, byteRoom, ledgerRoom, verdictLeft, judged}
+use Rattle.judge.specs.Judged.{tickLines, verdictLeft}
 use Rattle.judge.proofs.JudgedLaws.{is-verdict}
 use Rattle.judge.proofs.LedgerLists.{length-values}
 use Rattle.writer.specs.Card.{standardCard}
-use Rattle.writer.specs.ReadBack.{ReadBack, ReadsBack, ReadBackLaw}
-use Rattle.writer.specs.Written.{mostBytes, writtenLength, recordingOf}
+use Rattle.writer.specs.ReadBack.{ReadAs, ReadBackLaw}
+use Rattle.writer.specs.Written.{mostBytes, recordingOf, CountedLaw}
 use Rattle.writer.specs.WrittenSteps.{writtenSteps}
 use Rattle.writer.proofs.SentComplete.{writtenLines, sent-complete, empty-outcome}
 use Rattle.writer.proofs.StringLaws.{written-count}
@@ -30,41 +27,37 @@ use Rattle.writer.proofs.WrittenRecordable.{written-recordable}
 
 -- A verdict over the ticks that are put down for a string, with exactly its bytes.
 read-string : (steps : List Step) (string : List ℕ) → Bytes string → (bytes ledger : List ℕ)
-    → ReadBack string bytes (verdictLeft steps (outcome standardLimits (writtenLines standardCard string)) bytes ledger)
+    → ReadAs string bytes (verdictLeft steps (outcome standardLimits (writtenLines standardCard string)) bytes ledger)
 read-string steps [] is bytes ledger =
-    subst⁻¹ (λ (o : Outcome). ReadBack [] bytes (verdictLeft steps o bytes ledger)) empty-outcome
-    (record { number = refl; count = refl; begins = refl })
+    subst⁻¹ (λ (o : Outcome). ReadAs [] bytes (verdictLeft steps o bytes ledger)) empty-outcome
+    (record { number = refl; count = refl; buffer = refl })
 read-string steps (first ∷ others) is bytes ledger =
     let c = sent-complete first others is in
     let o = outcome standardLimits (writtenLines standardCard (first ∷ others)) in
     record {
       number = ap verdictNumber (c .verdict);
       count = sym (length-values (o .bytes)) ∙ ap length (c .bytes);
-      begins = ap (λ (v : List ℕ). v over bytes) (c .bytes);
+      buffer = ap (λ (v : List ℕ). v over bytes) (c .bytes);
     }
 
-module _ (string : List ℕ) (few : length string ≤ mostBytes) where
-  -- The recording is of good form and has the steps put down.
-  is-recording : FileOf (writtenSteps standardCard string)
-  is-recording =
-      file-of (writtenSteps standardCard string) (omega (arith, written-count standardCard string)) (written-recordable string)
+-- The recording is of good form and has the steps put down.
+is-recording : (string : List ℕ) → length string ≤ mostBytes → FileOf (writtenSteps standardCard string)
+is-recording string few =
+    file-of (writtenSteps standardCard string) (omega (arith, written-count standardCard string)) (written-recordable string)
 
-  shows-ticks : tickList (recordingOf standardCard string) ≡ writtenLines standardCard string
-  unfolding recordingOf ticksOf
-  shows-ticks = ap (λ (steps : List Step). map linesOf (ticks steps)) (is-recording .steps-back)
-
-  pub recording-length : length (recordingOf standardCard string) ≡ writtenLength (length string)
-  unfolding recordingOf
-  recording-length =
-      let count = written-count standardCard string in
-      file-length (writtenSteps standardCard string) ∙ omega arith
+pub counted : CountedLaw
+unfolding recordingOf
+counted card string =
+    let count = written-count card string in
+    record { steps = count; bytes = file-length (writtenSteps card string) ∙ omega arith }
 
 pub read-back : ReadBackLaw
 unfolding recordingOf
 read-back string is few bytes ledger hb hg =
     let file = recordingOf standardCard string in
     let good = good-form file _ .1 (is-recording string few .good) in
-    subst⁻¹ (ReadBack string bytes)
+    subst⁻¹ (ReadAs string bytes)
     (is-verdict standardLimits file bytes ledger _ good hb hg
-    ∙ ap (λ w. verdictLeft (stepsOf file) (outcome standardLimits w) bytes ledger) (shows-ticks string few))
+    ∙ ap (λ (steps : List Step). verdictLeft (stepsOf file) (outcome standardLimits (tickLines steps)) bytes ledger)
+    (is-recording string few .steps-back))
     (read-string (stepsOf file) string is bytes ledger)

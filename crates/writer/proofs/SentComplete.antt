@@ -2,12 +2,11 @@
 -- what the judge finds where no byte was given. Assumes nothing.
 use Prim.Native.Nat.{ℕ}
 use mathlib.Core.Path.{_≡_, refl}
-use mathlib.Core.List.{List, [], _∷_, map}
+use mathlib.Core.List.{List, [], _∷_}
 use borrow.Author.Needs.{needs}
 use Rattle.recording.specs.GoodForm.{Bytes}
 use Rattle.recording.specs.Ticks.{ticks}
 use Rattle.transfer.specs.Limits.{standardLimits}
-use Rattle.transfer.specs.Lines.{linesOf}
 use Rattle.transfer.specs.Offsets.{below, upTo}
 use Rattle.transfer.specs.Phases.{next, same, withBit, handover, afterBit}
 use Rattle.transfer.specs.States.{follow, nextState}
@@ -20,6 +19,7 @@ use Rattle.transfer.specs.declared.limits.Limits.{Limits}
 use Rattle.transfer.specs.declared.lines.Lines.{Lines}
 use Rattle.transfer.specs.declared.verdict.Fault.the-variants.{EmptyStream}
 use Rattle.transfer.proofs.Demand3.{standard-demand3}
+use Rattle.judge.specs.Judged.{tickLines}
 use Rattle.writer.specs.Card.{standardCard}
 use Rattle.writer.specs.WrittenSteps.{writtenSteps}
 use Rattle.writer.specs.declared.card.Card.{Card}
@@ -29,7 +29,7 @@ use Rattle.writer.proofs.SentTicks.{gives-sent}
 
 -- What each tick of the recording of a string shows.
 abbrev pub writtenLines : Card → (string : List ℕ) → List Lines
-writtenLines card string = map linesOf (ticks (writtenSteps card string))
+writtenLines card string = tickLines (writtenSteps card string)
 
 module _ (first : ℕ) (others : List ℕ) (bytes : Bytes (first ∷ others)) where
   -- With any card in time, the pair of its plan explains them.

@@ -38,7 +38,7 @@ module _ (card : Card) where
         let-go = 0;
         take = card .take;
         release = card .take + card .hold;
-        wait = card .ready;
+        wait = card .«ready_to_send»;
       }
 
   abbrev pub sendingOf : (first : ℕ) (others : List ℕ) → Sending
@@ -46,7 +46,7 @@ module _ (card : Card) where
   sendingOf first (second ∷ others) = more (card .gap) (frameOf first) (sendingOf second others)
 
   abbrev pub planOf : (first : ℕ) (others : List ℕ) → Plan
-  planOf first others = record { found = 0; hold = card .hold; wait = card .ready; sending = sendingOf first others }
+  planOf first others = record { found = 0; hold = card .hold; wait = card .«ready_to_send»; sending = sendingOf first others }
 
   -- What the lowest bit is worth, and the k bits of a value below 2^k; so a byte's eight bits are worth the byte.
   bit-value : (value weight : ℕ) → (if odd value then weight else 0) ≡ weight * (value % 2)

@@ -15,7 +15,7 @@ use Rattle.writer.proofs.SentPlan.{odd, bitOf, bitsOf, frameOf, sending
 pub record InTime (L : Limits) (card : Card) : Type 0 where
   pub hold : 1 ≤ card .hold
   pub hold-least : L .«between_bytes» ≤ card .hold
-  pub ready : 1 ≤ card .ready
+  pub ready : 1 ≤ card .«ready_to_send»
   pub gap : 1 ≤ card .gap
   pub gap-most : card .gap < L .«end_mark»
   pub set-up : 1 ≤ card .«set_up»

@@ -71,10 +71,10 @@ module _ (card : Card) (some : 1 ≤ card .«set_up») where
 
   -- A byte from its bits on: the steps that follow begin with the receiver's hold and its wait.
   gives-frame : (value : ℕ) (js : List Pulls) {steps : List Step}
-      → Gives (replicate (card .hold) clockHeld ++ (replicate (card .ready) held ++ js)) steps
+      → Gives (replicate (card .hold) clockHeld ++ (replicate (card .«ready_to_send») held ++ js)) steps
       → Gives (frameTrack (frameOf card value) js) (bitSteps card 8 value ++ (shows 1 0 (card .take) ∷ []) ++ steps)
   gives-frame value js rest =
-      let js-held = replicate (card .ready) held ++ js in
+      let js-held = replicate (card .«ready_to_send») held ++ js in
       let taken = handover-is 0 (card .take) (card .hold) (card .take) (card .take + card .hold) js-held (omega arith) refl in
       rw (frame-ticks, ← taken, append-assoc) (gives-bits 8 value (gives-step clock refl rest))
 

@@ -8,7 +8,7 @@ use lib.ListN.{length, getD, drop, length-append, length-drop, drop-of-length-le
 use lib.Seq.{drop-cons}
 use Rattle.writer.specs.WrittenSteps.{byteSteps, plainGap, sentSteps, emptySteps, writtenSteps}
 use Rattle.writer.specs.Written.{writtenStepCount}
-use Rattle.writer.specs.Pieces.{withSteps, Put}
+use Rattle.writer.specs.Put.{withSteps, Put}
 use Rattle.writer.specs.declared.card.Card.{Card}
 use Rattle.writer.proofs.PieceLaws.{goes-on}
 use Rattle.writer.proofs.ByteLaws.{byte-count, last-count}

@@ -5,10 +5,10 @@ use mathlib.Core.Path.{_≡_, sym, ap, subst⁻¹, _∙_}
 use native.Mathlib.Nat.{zero-add}
 use native.Mathlib.Omega.{arith}
 use borrow.Author.Tests.{lt-ltb, le-ltb}
-use lib.ListN.{length, take}
+use lib.ListN.{length}
 use lib.Seq.{sets, sets-eq, take-append-seam}
 use Rattle.answer.specs.Answers.{refused, accepted}
-use Rattle.answer.specs.Lent.{_over_}
+use Rattle.answer.specs.Lent.{_over_, first}
 use Rattle.recording.specs.GoodForm.{Bytes}
 use Rattle.recording.specs.Layout.{fileLength}
 use Rattle.recording.specs.Ticks.{totalTicks}
@@ -17,16 +17,17 @@ use Rattle.recording.specs.declared.header.Header.{Header}
 use Rattle.recording.specs.declared.step.Step.{Step}
 use Rattle.recording.proofs.SetsLaws.{sets-append}
 use Rattle.recording.proofs.FileOfLaws.{header-length, file-length}
+use Rattle.transfer.specs.Limits.{standardLimits}
 use Rattle.writer.specs.Card.{standardCard}
 use Rattle.writer.specs.WrittenSteps.{writtenSteps}
-use Rattle.writer.specs.Written.{mostBytes, writtenStepCount, writtenLength, recordingOf, Written, left, written}
+use Rattle.writer.specs.Written.{mostBytes, writtenStepCount, writtenLength, recordingOf, Written, leaves, written}
 use Rattle.writer.specs.ReadBack.{ReadsBack}
 use Rattle.writer.specs.WrittenTicks.{writtenTicks}
-use Rattle.writer.specs.Pieces.{withSteps}
+use Rattle.writer.specs.Put.{withSteps}
 use Rattle.writer.specs.declared.card.Card.{Card}
 use Rattle.writer.proofs.StringLaws.{written-count}
 use Rattle.writer.proofs.TickLaws.{written-ticks}
-use Rattle.writer.proofs.ReadBack.{recording-length, read-back}
+use Rattle.writer.proofs.ReadBack.{counted, read-back}
 
 -- The header put down first, and then the steps.
 file-put : (d d₁ d₂ : List ℕ) (steps : List Step) → fileLength (length steps) ≤ length d
@@ -53,17 +54,17 @@ module _ (card : Card) (bytes : List ℕ) (d : List ℕ) where
       let h-good : h ≡ goodHeader (length all) (totalTicks all) = h-is ∙ rw (s, t) in
       file-put d d₁ d₂ all (omega arith) (header ∙ rw h-good) put
 
-  pub too-many : mostBytes < length bytes → written card bytes d ≡ left (refused 10 0) d
+  pub too-many : mostBytes < length bytes → written card bytes d ≡ leaves (refused 10 0) d
   unfolding written
   too-many many = rw (lt-ltb mostBytes (length bytes) many)
 
   module _ (few : length bytes ≤ mostBytes) where
-    pub no-room : length d < writtenLength (length bytes) → written card bytes d ≡ left (refused 11 0) d
+    pub no-room : length d < writtenLength (length bytes) → written card bytes d ≡ leaves (refused 11 0) d
     unfolding written
     no-room short = rw (le-ltb mostBytes (length bytes) few, lt-ltb (length d) (writtenLength (length bytes)) short)
 
     pub all-well : writtenLength (length bytes) ≤ length d
-        → written card bytes d ≡ left (accepted (writtenLength (length bytes))) (recordingOf card bytes over d)
+        → written card bytes d ≡ leaves (accepted (writtenLength (length bytes))) (recordingOf card bytes over d)
     unfolding written
     all-well room = rw (le-ltb mostBytes (length bytes) few, le-ltb (length d) (writtenLength (length bytes)) room)
 
@@ -71,21 +72,22 @@ module _ (card : Card) (bytes : List ℕ) (d : List ℕ) where
 module _ (bytes d : List ℕ) where
   abbrev Promise : Written → Type 0
   Promise w =
-      (w ≡ written standardCard bytes d) × (w .answer .number ≡ 0 → ReadsBack (take (w .answer .count) (w .destination)) bytes)
+      (w ≡ written standardCard bytes d)
+      × (w .answer .number ≡ 0 → ReadsBack standardLimits (first (w .answer .count) (w .destination)) bytes)
 
-  pub refuses : (w : Written) (number : ℕ) → 1 ≤ number → w ≡ left (refused number 0) d
-      → written standardCard bytes d ≡ left (refused number 0) d → Promise w
+  pub refuses : (w : Written) (number : ℕ) → 1 ≤ number → w ≡ leaves (refused number 0) d
+      → written standardCard bytes d ≡ leaves (refused number 0) d → Promise w
   refuses w number some e is =
       (e ∙ sym is, λ zero. absurd (omega (arith, ap (λ (v : Written). v .answer .number) e)))
 
   pub puts-down : (w : Written) → Bytes bytes → length bytes ≤ mostBytes
-      → w ≡ left (accepted (writtenLength (length bytes))) (recordingOf standardCard bytes over d)
-      → written standardCard bytes d ≡ left (accepted (writtenLength (length bytes))) (recordingOf standardCard bytes over d) → Promise w
+      → w ≡ leaves (accepted (writtenLength (length bytes))) (recordingOf standardCard bytes over d)
+      → written standardCard bytes d ≡ leaves (accepted (writtenLength (length bytes))) (recordingOf standardCard bytes over d) → Promise w
   puts-down w is few e all =
       let recording = recordingOf standardCard bytes in
-      let first : take (writtenLength (length bytes)) (recording over d) ≡ recording =
-      ap (λ (n : ℕ). take n (recording over d)) (sym (recording-length bytes few)) ∙ take-append-seam recording _ in (
+      let begins : first (writtenLength (length bytes)) (recording over d) ≡ recording =
+      ap (λ (n : ℕ). first n (recording over d)) (sym (counted standardCard bytes .bytes)) ∙ take-append-seam recording _ in (
         e ∙ sym all,
-        λ zero. subst⁻¹ (λ (v : Written). ReadsBack (take (v .answer .count) (v .destination)) bytes) e
-            (subst⁻¹ (λ (file : List ℕ). ReadsBack file bytes) first (read-back bytes is few)),
+        λ zero. subst⁻¹ (λ (v : Written). ReadsBack standardLimits (first (v .answer .count) (v .destination)) bytes) e
+            (subst⁻¹ (λ (file : List ℕ). ReadsBack standardLimits file bytes) begins (read-back bytes is few)),
       )

@@ -17,7 +17,7 @@ pub record Fits (duration : ℕ) : Type 0 where
 -- A card of such durations.
 pub record CardFits (card : Card) : Type 0 where
   pub hold : Fits (card .hold)
-  pub ready : Fits (card .ready)
+  pub ready : Fits (card .«ready_to_send»)
   pub gap : Fits (card .gap)
   pub set-up : Fits (card .«set_up»)
   pub valid : Fits (card .valid)

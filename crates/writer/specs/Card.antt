@@ -6,7 +6,7 @@ abbrev pub standardCard : Card
 standardCard =
     record {
       hold = 200;
-      ready = 50;
+      «ready_to_send» = 50;
       gap = 60;
       «set_up» = 70;
       valid = 60;

@@ -4,5 +4,5 @@ pub mod WrittenSteps
 pub mod Written
 pub mod ReadBack
 pub mod Samples
-pub mod Pieces
+pub mod Put
 pub mod WrittenTicks

@@ -1,6 +1,7 @@
 -- What the writer answers and leaves, for any bytes and any destination.
 use Prim.Native.Nat.{ℕ, _+_, _*_}
 use mathlib.Core.List.{List}
+use mathlib.Core.Path.{_≡_}
 use lib.Dec.{ltb}
 use lib.ListN.{length}
 use Rattle.answer.specs.Answers.{refused, accepted}
@@ -25,20 +26,28 @@ writtenLength n = 80 * n + 36
 unfoldable pub recordingOf : Card → (string : List ℕ) → List ℕ
 recordingOf card string = fileOf (writtenSteps card string)
 
--- An answer, and the destination as it is left.
+-- So many steps, and so many bytes, with any card.
+pub record Counted (card : Card) (string : List ℕ) : Type 0 where
+  pub steps : length (writtenSteps card string) ≡ writtenStepCount (length string)
+  pub bytes : length (recordingOf card string) ≡ writtenLength (length string)
+
+abbrev pub CountedLaw : Type 0
+CountedLaw = (card : Card) (string : List ℕ) → Counted card string
+
+-- What the writer leaves: an answer, and the destination.
 pub record Written : Type 0 where
   pub answer : Answer
   pub destination : List ℕ
 
-abbrev pub left : Answer → List ℕ → Written
-left answer destination = record { answer = answer; destination = destination }
+abbrev pub leaves : Answer → List ℕ → Written
+leaves answer destination = record { answer = answer; destination = destination }
 
 -- "The writer tests 10, then 11." "No lent byte .. changes" at a refusal; otherwise the destination begins with the recording, and
 -- "bytes of the destination beyond these don't change". "It answers number 0, tick 0, step 0, and the length as count": the recording's.
 unfoldable pub written : Card → (bytes destination : List ℕ) → Written
 written card bytes destination =
     -- 10: "more than 799 bytes"
-    if ltb mostBytes (length bytes) then left (refused 10 0) destination else
+    if ltb mostBytes (length bytes) then leaves (refused 10 0) destination else
     -- 11: "destination under 80n+36 bytes, n the number of bytes given"
-    if ltb (length destination) (writtenLength (length bytes)) then left (refused 11 0) destination else
-    left (accepted (writtenLength (length bytes))) (recordingOf card bytes over destination)
+    if ltb (length destination) (writtenLength (length bytes)) then leaves (refused 11 0) destination else
+    leaves (accepted (writtenLength (length bytes))) (recordingOf card bytes over destination)

@@ -9,6 +9,14 @@ abbrev pub shows : (clk dat duration : ℕ) → Step
 shows c d duration = record { duration = duration; lines = 2 * c + 4 * d; last = 0 }
 
 module _ (card : Card) where
+  -- "(1,1) 200, (0,1) 50": every byte begins so, what follows the last byte, and the recording of no bytes.
+  abbrev pub opening : List Step
+  opening = shows 1 1 (card .hold) ∷ shows 0 1 (card .«ready_to_send») ∷ []
+
+  -- "(0,0) 220, (0,1) 80", and (0,0) for so many ticks.
+  abbrev pub acknowledged : (after : ℕ) → List Step
+  acknowledged after = shows 0 0 (card .«end_gap») ∷ shows 0 1 (card .acknowledgement) ∷ shows 0 0 after ∷ []
+
   -- "Each bit (1,b) 70, (0,b) 60": the lowest k bits of a value, least significant first.
   unfoldable pub bitSteps : (k value : ℕ) → List Step
   bitSteps zero value = []
@@ -17,31 +25,24 @@ module _ (card : Card) where
       ∷ shows 0 (value % 2) (card .valid)
       ∷ bitSteps k (value / 2)
 
-  -- "For each byte: (1,1) 200, (0,1) 50, (0,0) 60; each bit ..; (1,0) 30." What stands between the 50 and the bits is `gap`.
+  -- "Each bit ..; (1,0) 30."
+  abbrev pub valueSteps : (value : ℕ) → List Step
+  valueSteps value = bitSteps 8 value ++ (shows 1 0 (card .take) ∷ [])
+
+  -- "For each byte: (1,1) 200, (0,1) 50, (0,0) 60; each bit ..; (1,0) 30." What stands for the 60 is `gap`.
   unfoldable pub byteSteps : (gap : List Step) (value : ℕ) → List Step
-  byteSteps gap value =
-      shows 1 1 (card .hold)
-      ∷ shows 0 1 (card .ready)
-      ∷ (gap ++ (bitSteps 8 value ++ (shows 1 0 (card .take) ∷ [])))
+  byteSteps gap value = opening ++ (gap ++ valueSteps value)
 
   abbrev pub plainGap : List Step
   plainGap = shows 0 0 (card .gap) ∷ []
 
   -- "The last byte has (0,0) 220, (0,1) 80, (0,0) 40 in place of the 60."
   abbrev pub endGap : List Step
-  endGap =
-      shows 0 0 (card .«end_gap»)
-      ∷ shows 0 1 (card .acknowledgement)
-      ∷ shows 0 0 (card .response)
-      ∷ []
+  endGap = acknowledged (card .response)
 
   -- "Then (1,1) 200, (0,1) 50, (0,0) 100."
   abbrev pub closing : List Step
-  closing =
-      shows 1 1 (card .hold)
-      ∷ shows 0 1 (card .ready)
-      ∷ shows 0 0 (card .silence)
-      ∷ []
+  closing = opening ++ (shows 0 0 (card .silence) ∷ [])
 
   -- One byte or more: the first, and those that follow it.
   unfoldable pub sentSteps : (first : ℕ) (others : List ℕ) → List Step
@@ -50,13 +51,7 @@ module _ (card : Card) where
 
   -- "No bytes: (1,1) 200, (0,1) 50, (0,0) 220, (0,1) 80, (0,0) 300."
   abbrev pub emptySteps : List Step
-  emptySteps =
-      shows 1 1 (card .hold)
-      ∷ shows 0 1 (card .ready)
-      ∷ shows 0 0 (card .«end_gap»)
-      ∷ shows 0 1 (card .acknowledgement)
-      ∷ shows 0 0 (card .«no_response»)
-      ∷ []
+  emptySteps = opening ++ acknowledged (card .«no_response»)
 
   unfoldable pub writtenSteps : List ℕ → List Step
   writtenSteps [] = emptySteps

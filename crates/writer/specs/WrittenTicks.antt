@@ -11,10 +11,10 @@ use Rattle.writer.specs.declared.card.Card.{Card}
 
 module _ (card : Card) where
   abbrev pub openingTicks : ℕ
-  openingTicks = card .hold + card .ready
+  openingTicks = card .hold + card .«ready_to_send»
 
-  abbrev pub acknowledgedTicks : (response : ℕ) → ℕ
-  acknowledgedTicks response = card .«end_gap» + card .acknowledgement + response
+  abbrev pub acknowledgedTicks : (after : ℕ) → ℕ
+  acknowledgedTicks after = card .«end_gap» + card .acknowledgement + after
 
   abbrev pub valueTicks : ℕ
   valueTicks = 8 * (card .«set_up» + card .valid) + card .take

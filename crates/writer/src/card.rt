@@ -7,7 +7,7 @@ pub struct Card {
     // Both parties hold their lines: (1,1).
     pub hold: u16,
     // The sender is ready to send: (0,1).
-    pub ready: u16,
+    pub ready_to_send: u16,
     // The receiver is ready for data, before a byte that is not the last: (0,0).
     pub gap: u16,
     // A bit's set-up and valid times: (1,b), (0,b).
@@ -34,7 +34,7 @@ impl Card {
     {
         Card {
             hold: 200,
-            ready: 50,
+            ready_to_send: 50,
             gap: 60,
             set_up: 70,
             valid: 60,

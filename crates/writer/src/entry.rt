@@ -1,11 +1,12 @@
 // The entry: a recording of given bytes, put down in a lent destination.
 ghost use mathlib.Core.Path.{_≡_};
 ghost use Prim.Native.Nat.{_≤_};
-ghost use lib.ListN.{length, take};
-ghost use Rattle.answer.specs.Lent.{_over_};
+ghost use lib.ListN.{length};
+ghost use Rattle.answer.specs.Lent.{_over_, first};
+ghost use Rattle.transfer.specs.Limits.{standardLimits};
 ghost use Rattle.writer.specs.Card.{standardCard};
 ghost use Rattle.writer.specs.ReadBack.{ReadsBack};
-ghost use Rattle.writer.specs.Written.{mostBytes, writtenLength, recordingOf, left, written};
+ghost use Rattle.writer.specs.Written.{mostBytes, writtenLength, recordingOf, leaves, written};
 use crate::card::Card;
 use crate::string;
 use crate::ticks;
@@ -13,31 +14,34 @@ use answer::Answer;
 use recording::Header;
 use recording::Step;
 
-// Refusal 10: more bytes than these. Refusal 11: too few places in the destination.
-const MOST_BYTES: usize = 799;
-
+// Refusal 10: more bytes than these.
 const TOO_MANY_BYTES: u8 = 10;
 
-const NO_ROOM: u8 = 11;
+const MOST_BYTES: usize = 799;
 
-// Writes the sample recording of the bytes. Promised, first: the answer and the destination, whole, are what `written` gives; nothing is
-// written unless the number is 0. Second, demand 2: what was then put down is read back by the judge, with room enough, as these bytes.
+// Refusal 11: fewer places than the recording needs.
+const SHORT_DESTINATION: u8 = 11;
+
+// Writes the sample recording of the bytes. Promised, first: the answer and the destination, whole, are what `written` gives, which refuses
+// nothing but 10 and 11 and then changes nothing. Second, demand 2: what was put down is read back by the judge, with room enough, as
+// these very bytes.
 pub fn write(bytes: &[u8], destination: &mut [u8]) -> Answer
     ensures { λ r. ⌜
-        (left r (now (destination .exit)) ≡ written standardCard (now (bytes .entry)) (now (destination .entry)))
-        × (r .number ≡ 0 → ReadsBack (take (r .count) (now (destination .exit))) (now (bytes .entry))) ⌝ }
+        (leaves r (now (destination .exit)) ≡ written standardCard (now (bytes .entry)) (now (destination .entry)))
+        × (r .number ≡ 0 → ReadsBack standardLimits (first (r .count) (now (destination .exit))) (now (bytes .entry))) ⌝ }
 {
     if bytes.len() > MOST_BYTES {
         return Answer::refused(TOO_MANY_BYTES, 0);
     }
     let length = written_length(bytes.len());
     if destination.len() < length {
-        return Answer::refused(NO_ROOM, 0);
+        return Answer::refused(SHORT_DESTINATION, 0);
     }
     put_recording(bytes, destination, Card::standard());
     Answer::accepted(length as u32)
 }
 
+// How long the recording of so many bytes is.
 fn written_length(bytes: usize) -> usize
     requires { ⌜ bytes ≤ mostBytes ⌝ }
     ensures { λ r. ⌜ r ≡ writtenLength bytes ⌝ }
@@ -52,7 +56,7 @@ fn put_recording(bytes: &[u8], destination: &mut [u8], card: Card)
 {
     let steps = string::step_count(bytes.len());
     let total = ticks::total_ticks(card, bytes.len() as u32);
-    let header = Header::good(steps as u16, total);
+    let header = Header::of_steps(steps as u16, total);
     header.write(destination);
     string::put_bytes(bytes, destination, card);
 }

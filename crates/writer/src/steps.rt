@@ -3,8 +3,9 @@ ghost use mathlib.Core.List.{[], _∷_};
 ghost use Prim.Native.Nat.{_+_, _≤_};
 ghost use lib.ListN.{length};
 ghost use Rattle.recording.specs.Layout.{stepPlace};
-ghost use Rattle.writer.specs.WrittenSteps.{shows, bitSteps, byteSteps, plainGap, sentSteps, closing, emptySteps};
-ghost use Rattle.writer.specs.Pieces.{Put, opening, acknowledged, valueSteps};
+ghost use Rattle.writer.specs.WrittenSteps.{shows, bitSteps, byteSteps, plainGap, sentSteps};
+ghost use Rattle.writer.specs.WrittenSteps.{closing, emptySteps, opening, acknowledged, valueSteps};
+ghost use Rattle.writer.specs.Put.{Put};
 use crate::card::Card;
 use recording::Step;
 
@@ -22,23 +23,23 @@ fn put_lines(destination: &mut [u8], first: usize, clk: u8, dat: u8, duration: u
     first + 1
 }
 
-// Both hold, then the sender is ready: every byte, the closing and the empty stream begin so.
+// Both hold, then the sender is ready to send: every byte, the closing and the empty stream begin so.
 fn put_opening(destination: &mut [u8], first: usize, card: Card) -> usize
     requires { ⌜ stepPlace (first + 2) ≤ length (now destination) ⌝ }
     ensures { λ next. ⌜ Put (now (destination .entry)) (now (destination .exit)) first next (opening card) ⌝ }
 {
     let next = put_lines(destination, first, 1, 1, card.hold);
-    put_lines(destination, next, 0, 1, card.ready)
+    put_lines(destination, next, 0, 1, card.ready_to_send)
 }
 
-// The long gap with the receiver's acknowledgement; `response` is the time until something follows it.
-fn put_acknowledged(destination: &mut [u8], first: usize, card: Card, response: u16) -> usize
+// The long gap, the receiver's acknowledgement, and so many ticks after it.
+fn put_acknowledged(destination: &mut [u8], first: usize, card: Card, after: u16) -> usize
     requires { ⌜ stepPlace (first + 3) ≤ length (now destination) ⌝ }
-    ensures { λ next. ⌜ Put (now (destination .entry)) (now (destination .exit)) first next (acknowledged card response) ⌝ }
+    ensures { λ next. ⌜ Put (now (destination .entry)) (now (destination .exit)) first next (acknowledged card after) ⌝ }
 {
     let next = put_lines(destination, first, 0, 0, card.end_gap);
     let next = put_lines(destination, next, 0, 1, card.acknowledgement);
-    put_lines(destination, next, 0, 0, response)
+    put_lines(destination, next, 0, 0, after)
 }
 
 // The eight bits, least significant first.

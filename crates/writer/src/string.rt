@@ -5,11 +5,11 @@ ghost use lib.ListN.{length};
 ghost use Rattle.recording.specs.Layout.{fileLength};
 ghost use Rattle.writer.specs.WrittenSteps.{writtenSteps};
 ghost use Rattle.writer.specs.Written.{mostBytes, writtenStepCount};
-ghost use Rattle.writer.specs.Pieces.{withSteps};
+ghost use Rattle.writer.specs.Put.{withSteps};
 use crate::card::Card;
 use crate::steps;
 
-// How many steps a byte has, and how many there are besides.
+// Document 01: 20n+5 steps.
 const BYTE_STEPS: usize = 20;
 
 const OTHER_STEPS: usize = 5;
@@ -21,6 +21,7 @@ pub(crate) fn step_count(bytes: usize) -> usize
     BYTE_STEPS * bytes + OTHER_STEPS
 }
 
+// The steps after the header.
 pub(crate) fn put_bytes(bytes: &[u8], destination: &mut [u8], card: Card)
     requires { ⌜ fileLength (writtenStepCount (length (now bytes))) ≤ length (now destination) ⌝ }
     ensures { λ _. ⌜ now (destination .exit) ≡ withSteps (now (destination .entry)) 0 (writtenSteps card (now (bytes .entry))) ⌝ }

@@ -5,16 +5,17 @@ ghost use Rattle.writer.specs.Written.{mostBytes};
 ghost use Rattle.writer.specs.WrittenTicks.{openingTicks, acknowledgedTicks, valueTicks, writtenTicks};
 use crate::card::Card;
 
+// The ticks of the pieces of src/steps.rt.
 fn opening_ticks(card: Card) -> u32
     ensures { λ r. ⌜ r ≡ openingTicks card ⌝ }
 {
-    card.hold as u32 + card.ready as u32
+    card.hold as u32 + card.ready_to_send as u32
 }
 
-fn acknowledged_ticks(card: Card, response: u16) -> u32
-    ensures { λ r. ⌜ r ≡ acknowledgedTicks card response ⌝ }
+fn acknowledged_ticks(card: Card, after: u16) -> u32
+    ensures { λ r. ⌜ r ≡ acknowledgedTicks card after ⌝ }
 {
-    card.end_gap as u32 + card.acknowledgement as u32 + response as u32
+    card.end_gap as u32 + card.acknowledgement as u32 + after as u32
 }
 
 fn value_ticks(card: Card) -> u32

@@ -4,7 +4,7 @@ use native.Mathlib.Omega.{arith}
 use borrow.Author.Needs.{needs}
 use Rattle.recording.proofs.GoodFormLaws.{good-form}
 use Rattle.answer.specs.Answers.{refused}
-use Rattle.judge.specs.Judged.{left}
+use Rattle.judge.specs.Judged.{leaves}
 use Rattle.judge.proofs.JudgedLaws.{is-refused, few-places, few-ledger-places}
 use Rattle.judge.proofs.ReadVerdicts.{is-read}
 use Rattle.judge.proofs.Demand3.{promised}
@@ -34,7 +34,7 @@ returns c =
     let known = c .before .before .before in
     let call = known .before .before .before .before .before .before in
     let good = sym (known .before .before .check-form .ensures) ∙ known .form2 .given .1 in
-    promised _ _ _ _ (ap (λ r. left r (call .args .bytes .now) (call .args .ledger .now)) (c .refused2 .ensures)
+    promised _ _ _ _ (ap (λ r. leaves r (call .args .bytes .now) (call .args .ledger .now)) (c .refused2 .ensures)
     ∙ sym (few-places _ _ _ _ _ good (c .before .if1 .taken)))
 
 refused-requires-3 : tie.Need-refused-requires-3
@@ -45,7 +45,7 @@ returns-2 c =
     let known = c .before .before .before .before in
     let call = known .before .before .before .before .before .before in
     let good = sym (known .before .before .check-form .ensures) ∙ known .form2 .given .1 in
-    promised _ _ _ _ (ap (λ r. left r (call .args .bytes .now) (call .args .ledger .now)) (c .refused3 .ensures)
+    promised _ _ _ _ (ap (λ r. leaves r (call .args .bytes .now) (call .args .ledger .now)) (c .refused3 .ensures)
     ∙ sym (few-ledger-places _ _ _ _ _ good (c .before .before .if1 .left) (c .before .if2 .taken)))
 
 standard-requires : tie.Need-standard-requires
@@ -63,8 +63,8 @@ read-requires c κs =
       ledger-room = room .if2 .left;
     }
 
-answer-requires : tie.Need-answer-requires
-answer-requires c κs =
+state-answer-requires : tie.Need-state-answer-requires
+state-answer-requires c κs =
     let known = c .before .before .before .before .before .before .before .before .before .before .before in
     let good = good-form _ _ .0 (sym (known .before .before .check-form .ensures) ∙ known .form2 .given .1) in
     (good .few, omega (arith, good .whole))
@@ -75,7 +75,7 @@ returns-3 c =
     let known = number .before .before in
     let call = known .before .before .before .before .before .before in
     let bad = sym (known .before .before .check-form .ensures) ∙ known .form .given .1 in
-    promised _ _ _ _ (ap (λ r. left r (call .args .bytes .now) (call .args .ledger .now)) (c .refused .ensures
+    promised _ _ _ _ (ap (λ r. leaves r (call .args .bytes .now) (call .args .ledger .now)) (c .refused .ensures
     ∙ ap (λ n. refused n (known .form .given .0 .1 .0)) (number .number .ensures))
     ∙ sym (is-refused _ _ _ _ _ _ bad))
 
@@ -93,7 +93,7 @@ returns-4 c =
     let known = room .before .before .before in
     let good = sym (known .before .before .check-form .ensures) ∙ known .form2 .given .1 in
     promised _ _ _ _ (is-read _ _ _ _ _ good (room .before .if1 .left) (room .if2 .left) (times .standard .result) (read .read .result)
-    _ _ _ (times .standard .ensures) (read .read .ensures) (c .answer .ensures))
+    _ _ _ (times .standard .ensures) (read .read .ensures) (c .state-answer .ensures))
 
 pub judge-spec : {M : Type 1} → statement M
 judge-spec =
@@ -110,7 +110,7 @@ judge-spec =
     returns-2
     standard-requires
     read-requires
-    answer-requires
+    state-answer-requires
     returns-3
     same-length
     same-length-2

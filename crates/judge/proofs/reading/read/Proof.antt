@@ -75,8 +75,8 @@ next-requires c κs =
       count = omega (arith, place);
     }
 
-put-byte-requires : tie.Need-put-byte-requires Inv-loop μ-loop Inv-steps μ-steps
-put-byte-requires c κs =
+store-byte-requires : tie.Need-store-byte-requires Inv-loop μ-loop Inv-steps μ-steps
+store-byte-requires c κs =
     let inner = c .before .before .before in
     let outer = inner .before .before .before .before in
     let call = outer .before .before .before .before .before in
@@ -84,8 +84,8 @@ put-byte-requires c κs =
     let place = has-place (call .args .limits) (inner .loop .state) _ (k .few) in
     omega (arith, place, k .byte-places, outer .steps .inv .1 .byte-places, call .pre .byte-room)
 
-put-ticks-requires : tie.Need-put-ticks-requires Inv-loop μ-loop Inv-steps μ-steps
-put-ticks-requires c κs =
+store-ticks-requires : tie.Need-store-ticks-requires Inv-loop μ-loop Inv-steps μ-steps
+store-ticks-requires c κs =
     let inner = c .before .before .before .before .before .before .before in
     let outer = inner .before .before .before .before in
     let call = outer .before .before .before .before .before in
@@ -115,7 +115,8 @@ loop-again c =
       k .1,
       k .2,
       tick-read (call .args .limits) _ _ _ _ _ _ _ _ _ (next .next .result) _ _ _ _ (k .3) (omega arith)
-          (tick-left _ _ _ _ (next .before .loop-test .taken)) (next .next .ensures) (byte .put-byte .ensures) (ticks .put-ticks .ensures),
+          (tick-left _ _ _ _ (next .before .loop-test .taken)) (next .next .ensures) (byte .store-byte .ensures)
+          (ticks .store-ticks .ensures),
     )
 
 add-index : tie.Need-add-index Inv-loop μ-loop Inv-steps μ-steps
@@ -157,7 +158,7 @@ same-length-3 c =
     let byte = c .before .before .before .before .before .before .before .before in
     let next = byte .before .before in
     let inner = next .before .before in
-    byte-keeps-length _ _ (inner .loop .state) (next .next .result) (byte .put-byte .ensures)
+    byte-keeps-length _ _ (inner .loop .state) (next .next .result) (byte .store-byte .ensures)
     ∙ inner .loop .inv .3 .byte-places
     ∙ inner .before .before .before .before .steps .inv .1 .byte-places
 
@@ -166,7 +167,7 @@ same-length-4 c =
     let ticks = c .before .before .before .before in
     let next = ticks .before .before .before .before .before .before in
     let inner = next .before .before in
-    ticks-keep-length _ _ (inner .loop .state) (next .next .result) (ticks .put-ticks .ensures)
+    ticks-keep-length _ _ (inner .loop .state) (next .next .result) (ticks .store-ticks .ensures)
     ∙ inner .loop .inv .3 .ledger-places
     ∙ inner .before .before .before .before .steps .inv .1 .ledger-places
 
@@ -183,9 +184,9 @@ returns-2 c =
     let k = inner .loop .inv in
     let s = step .read in
     let behind = longestDuration * outer .steps .index + (inner .loop .passed + 1) in
-    let left = tick-left _ _ _ _ (next .before .loop-test .taken) in
-    let on = tick-read L _ _ _ _ behind _ _ _ _ (next .next .result) _ _ _ _ (k .3) (omega arith) left (next .next .ensures)
-    (byte .put-byte .ensures) (ticks .put-ticks .ensures) in
+    let ahead = tick-left _ _ _ _ (next .before .loop-test .taken) in
+    let on = tick-read L _ _ _ _ behind _ _ _ _ (next .next .result) _ _ _ _ (k .3) (omega arith) ahead (next .next .ensures)
+    (byte .store-byte .ensures) (ticks .store-ticks .ensures) in
     let here = step-left (call .args .file .now) _ _ (s .result) _ (s .ensures) (inner .before .of-byte .ensures) (k .2) in
     let whole = step-ends L _ _ _ _ _ behind _ _ _ _ _ _ _ _ _ _ (outer .steps .inv .1) here on refl (omega arith) in
     let few = few-handed L (call .args .file .now) (call .args .steps) (call .pre .few) in
@@ -206,8 +207,8 @@ read-spec =
     of-byte-requires
     loop-holds
     next-requires
-    put-byte-requires
-    put-ticks-requires
+    store-byte-requires
+    store-ticks-requires
     is-decided-requires
     add-passed
     loop-less

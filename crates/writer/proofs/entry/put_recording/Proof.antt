@@ -13,11 +13,11 @@ cast-total-ticks c = search needs
 total-ticks-requires : tie.Need-total-ticks-requires
 total-ticks-requires c κs = search needs
 
-cast-good : tie.Need-cast-good
-cast-good c = search needs
+cast-of-steps : tie.Need-cast-of-steps
+cast-of-steps c = search needs
 
-good-requires : tie.Need-good-requires
-good-requires c κs = search needs
+of-steps-requires : tie.Need-of-steps-requires
+of-steps-requires c κs = search needs
 
 write-requires : tie.Need-write-requires
 write-requires c κs = search needs
@@ -35,7 +35,7 @@ returns c =
     let count = header .before .before .step-count in
     let written = c .before .before .before .before .before .before .write in
     let steps = c .before .before .put-bytes in
-    recording-put _ _ _ _ _ _ _ _ (search needs) (count .ensures) (total .ensures) (header .good2 .ensures) (written .ensures)
+    recording-put _ _ _ _ _ _ _ _ (search needs) (count .ensures) (total .ensures) (header .of-steps .ensures) (written .ensures)
     (steps .ensures)
 
 pub put-recording-spec : {M : Type 1} → statement M
@@ -45,8 +45,8 @@ put-recording-spec =
     step-count-requires
     cast-total-ticks
     total-ticks-requires
-    cast-good
-    good-requires
+    cast-of-steps
+    of-steps-requires
     write-requires
     put-bytes-requires
     same-length

@@ -2,7 +2,7 @@
 use mathlib.Core.Path.{ap, ap₂, _∙_}
 use Rattle.answer.specs.Answers.{accepted}
 use Rattle.answer.specs.Lent.{_over_}
-use Rattle.writer.specs.Written.{left, recordingOf}
+use Rattle.writer.specs.Written.{leaves, recordingOf}
 use Rattle.writer.proofs.WrittenLaws.{too-many, no-room, all-well, refuses, puts-down}
 use borrow.Author.Needs.{needs}
 use Rattle.writer.proofs.entry.write.Statement.{statement}
@@ -14,7 +14,7 @@ refused-requires c κs = search needs
 returns : tie.Need-returns
 returns c =
     let d = c .before .before .before .before .args .destination .now in
-    refuses _ d _ 10 (search needs) (ap (λ r. left r d) (c .refused .ensures)) (too-many _ _ d (search needs))
+    refuses _ d _ 10 (search needs) (ap (λ r. leaves r d) (c .refused .ensures)) (too-many _ _ d (search needs))
 
 written-length-requires : tie.Need-written-length-requires
 written-length-requires c κs = search needs
@@ -25,7 +25,7 @@ refused-requires-2 c κs = search needs
 returns-2 : tie.Need-returns-2
 returns-2 c =
     let d = c .before .before .before .before .before .before .args .destination .now in
-    refuses _ d _ 11 (search needs) (ap (λ r. left r d) (c .refused2 .ensures)) (no-room _ _ d (search needs) (search needs))
+    refuses _ d _ 11 (search needs) (ap (λ r. leaves r d) (c .refused2 .ensures)) (no-room _ _ d (search needs) (search needs))
 
 standard-requires : tie.Need-standard-requires
 standard-requires c κs = search needs
@@ -52,7 +52,7 @@ returns-3 c =
     let d = a .destination .now in
     let same-answer = c .accepted .ensures ∙ ap accepted (counted .written-length .ensures) in
     let same-bytes = put .put-recording .ensures ∙ ap (λ card. recordingOf card bytes over d) (put .before .standard .ensures) in
-    puts-down bytes d _ (λ i. known .shared-slice-known .given i .fits) (search needs) (ap₂ left same-answer same-bytes)
+    puts-down bytes d _ (λ i. known .shared-slice-known .given i .fits) (search needs) (ap₂ leaves same-answer same-bytes)
     (all-well _ bytes d (search needs) (search needs))
 
 pub write-spec : {M : Type 1} → statement M

@@ -4,7 +4,7 @@ use mathlib.Core.Path.{_≡_, refl, _∙_}
 use borrow.Author.Needs.{needs}
 use lib.ListN.{length}
 use Rattle.writer.specs.WrittenSteps.{bitSteps}
-use Rattle.writer.specs.Pieces.{withSteps}
+use Rattle.writer.specs.Put.{withSteps}
 use Rattle.writer.proofs.BitLaws.{bit-goes-on, bits-put}
 use Rattle.writer.proofs.steps.put_bits.Statement.{statement}
 use Rattle.writer.proofs.steps.put_bits.Tie as tie

@@ -5,7 +5,7 @@ use native.Mathlib.Omega.{arith}
 use borrow.Author.Needs.{needs}
 use lib.ListN.{length, drop}
 use Rattle.writer.specs.WrittenSteps.{writtenSteps}
-use Rattle.writer.specs.Pieces.{withSteps}
+use Rattle.writer.specs.Put.{withSteps}
 use Rattle.writer.proofs.ByteLaws.{byte-next}
 use Rattle.writer.proofs.StringLaws.{byte-goes-on, last-put}
 use Rattle.writer.proofs.string.put_some_bytes.Statement.{statement}

@@ -1,7 +1,7 @@
 use borrow.Author.Needs.{needs}
 use Rattle.judge.proofs.Tests.{tests}
-use Rattle.judge.proofs.handed.put_ticks.Statement.{statement}
-use Rattle.judge.proofs.handed.put_ticks.Tie as tie
+use Rattle.judge.proofs.handed.store_ticks.Statement.{statement}
+use Rattle.judge.proofs.handed.store_ticks.Tie as tie
 
 cast-place : tie.Need-cast-place
 cast-place c = search needs
@@ -33,8 +33,8 @@ returns c = search tests
 returns-2 : tie.Need-returns-2
 returns-2 c = search tests
 
-pub put-ticks-spec : {M : Type 1} → statement M
-put-ticks-spec =
+pub store-ticks-spec : {M : Type 1} → statement M
+store-ticks-spec =
     tie.close
     (tie.spec
     cast-place

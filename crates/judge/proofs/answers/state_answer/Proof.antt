@@ -1,8 +1,8 @@
--- `answer` meets its contract. Assumes nothing.
+-- `state_answer` meets its contract. Assumes nothing.
 use borrow.Author.Needs.{needs}
 use Rattle.judge.proofs.ReadVerdicts.{state-answer}
-use Rattle.judge.proofs.answers.answer.Statement.{statement}
-use Rattle.judge.proofs.answers.answer.Tie as tie
+use Rattle.judge.proofs.answers.state_answer.Statement.{statement}
+use Rattle.judge.proofs.answers.state_answer.Tie as tie
 
 decision-requires : tie.Need-decision-requires
 decision-requires c κs = search needs
@@ -22,5 +22,5 @@ returns c =
     state-answer _ (decided .before .before .args .state) (d .result) (h .result) (c .number .result) (d .ensures) (h .ensures)
     (c .number .ensures)
 
-pub answer-spec : {M : Type 1} → statement M
-answer-spec = tie.close (tie.spec decision-requires step-holding-requires number-requires returns)
+pub state-answer-spec : {M : Type 1} → statement M
+state-answer-spec = tie.close (tie.spec decision-requires step-holding-requires number-requires returns)

@@ -1,7 +1,7 @@
 use borrow.Author.Needs.{needs}
 use Rattle.judge.proofs.Tests.{tests}
-use Rattle.judge.proofs.handed.put_byte.Statement.{statement}
-use Rattle.judge.proofs.handed.put_byte.Tie as tie
+use Rattle.judge.proofs.handed.store_byte.Statement.{statement}
+use Rattle.judge.proofs.handed.store_byte.Tie as tie
 
 cast-place : tie.Need-cast-place
 cast-place c = search needs
@@ -18,5 +18,5 @@ returns c = search tests
 returns-2 : tie.Need-returns-2
 returns-2 c = search tests
 
-pub put-byte-spec : {M : Type 1} → statement M
-put-byte-spec = tie.close (tie.spec cast-place slice-write-bytes same-length returns returns-2)
+pub store-byte-spec : {M : Type 1} → statement M
+store-byte-spec = tie.close (tie.spec cast-place slice-write-bytes same-length returns returns-2)
