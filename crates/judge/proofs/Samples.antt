@@ -1,20 +1,30 @@
--- The starred samples hold, by one computation, and S1's file is the one that document 01 prints. Assumes nothing.
+-- The starred samples hold, by one computation, and so do the refusals; S1's file is the one that document 01 prints. Assumes nothing.
 use mathlib.Core.Path.{refl}
 use Rattle.recording.specs.FileOf.{headerBytes, stepBytes, stepsBytes, fileOf}
 use Rattle.recording.specs.Form.{headerTest, stepTest, stepsForm, bodyForm, formOf}
-use Rattle.recording.specs.Ticks.{stepsFrom, stepsOf, totalTicks, ticks, ticksOf}
+use Rattle.recording.specs.Ticks.{stepsFrom, stepsOf, totalTicks, ticks}
 use Rattle.transfer.specs.Offsets.{below, upTo}
 use Rattle.transfer.specs.Phases.{next, same, withBit, handover, afterBit}
 use Rattle.transfer.specs.States.{follow, nextState}
 use Rattle.transfer.specs.Outcome.{stateAfter, handedOver, outcome}
 use Rattle.judge.specs.Judged.{stepHolding, twoTicks, judgedInForm, judged}
-use Rattle.judge.specs.Samples.{SamplesHold, S1Printed, S1Ticks}
+use Rattle.judge.specs.Samples.{SamplesHold, CutAfterByteHolds, S1Printed, S1Ticks, RefusedSamplesHold}
 
 pub samples-hold : SamplesHold
 unfolding below upTo next same withBit handover afterBit follow nextState stateAfter handedOver outcome
     headerBytes stepBytes stepsBytes fileOf headerTest stepTest stepsForm bodyForm formOf
-    stepsFrom stepsOf totalTicks ticks ticksOf stepHolding twoTicks judgedInForm judged
+    stepsFrom stepsOf totalTicks ticks stepHolding twoTicks judgedInForm judged
 samples-hold = refl
+
+pub cut-after-byte-holds : CutAfterByteHolds
+unfolding below upTo next same withBit handover afterBit follow nextState stateAfter handedOver outcome
+    headerBytes stepBytes stepsBytes fileOf headerTest stepTest stepsForm bodyForm formOf
+    stepsFrom stepsOf totalTicks ticks stepHolding twoTicks judgedInForm judged
+cut-after-byte-holds = refl
+
+pub refused-samples-hold : RefusedSamplesHold
+unfolding headerBytes stepBytes stepsBytes fileOf headerTest stepTest stepsForm bodyForm formOf stepsFrom stepsOf totalTicks judgedInForm judged
+refused-samples-hold = refl
 
 pub s1-printed : S1Printed
 unfolding headerBytes stepBytes stepsBytes fileOf totalTicks

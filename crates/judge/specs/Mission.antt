@@ -3,7 +3,6 @@ use Prim.Native.Nat.{ℕ, suc, _<_, _≤_}
 use mathlib.Core.Path.{_≡_}
 use mathlib.Core.List.{List}
 use mathlib.Core.Logic.{_↔_}
-use Rattle.answer.specs.Answers.{refused}
 use Rattle.answer.specs.declared.Answer.{Answer}
 use Rattle.recording.specs.Layout.{headerAt}
 use Rattle.recording.specs.Ticks.{stepsFrom, stepsOf, totalTicks}
@@ -54,7 +53,7 @@ module _ (L : Limits) (file bytes ledger : List ℕ) where
     pub no-refusal-is-due : GoodWithRoom file bytes ledger ↔ IsVerdict (given .answer .number)
     -- A refusal has tick 0 and count 0, "and no lent byte or number changes".
     pub refusals-change-nothing : (IsVerdict (given .answer .number) → ⊥)
-        → given ≡ leaves (refused (given .answer .number) (given .answer .step)) bytes ledger
+        → given ≡ leaves (record { number = given .answer .number; tick = 0; step = given .answer .step; count = 0 }) bytes ledger
     -- 22 is at the end of the recording.
     pub cut-at-the-end : given .answer .number ≡ 22 → AtTheEnd file (given .answer)
     -- Any other verdict "carries the deciding tick and the step holding it".

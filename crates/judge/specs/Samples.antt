@@ -1,11 +1,11 @@
--- Document 01, "Sample recordings": the starred ones, in its order, each judged as a whole file.
+-- Document 01, "Sample recordings": the starred ones, in its order, each judged as a whole file; and every refusal.
 use Prim.Native.Nat.{ℕ, zero, suc}
 use mathlib.Core.List.{List, [], _∷_, _++_, map}
 use mathlib.Core.Path.{_≡_}
 use lib.ListN.{replicate}
 use Rattle.answer.specs.Lent.{_over_}
 use Rattle.answer.specs.declared.Answer.{Answer}
-use Rattle.recording.specs.FileOf.{fileOf}
+use Rattle.recording.specs.FileOf.{headerBytes, fileOf}
 use Rattle.recording.specs.declared.step.Step.{Step}
 use Rattle.transfer.specs.Limits.{standardLimits}
 use Rattle.transfer.specs.Readings.{s1 as s1Spans}
@@ -102,6 +102,21 @@ expectedOf s = leaves (s .answer) (s .bytes over markedBytes) (s .ledger over ma
 abbrev pub SamplesHold : Type 0
 SamplesHold = map judgedSample samples ≡ map expectedOf samples
 
+-- Beyond these: the byte 0x41 as one that is not the last, cut in phase C. It was handed over, so that 22 has a count here.
+abbrev pub cutAfterByte : Sample
+cutAfterByte =
+    record {
+      steps =
+          200 ∶ 6 ∷ 50 ∶ 4 ∷ 60 ∶ 0 ∷ 70 ∶ 6 ∷ 60 ∶ 4
+          ∷ (zeros 5 ++ (70 ∶ 6 ∷ 60 ∶ 4 ∷ 70 ∶ 2 ∷ 60 ∶ 0 ∷ 30 ∶ 2 ∷ 200 ∶ 6 ∷ 50 ∶ 4 ∷ []));
+      answer = record { number = 22; tick = 1630; step = 22; count = 1 };
+      bytes = 0x41 ∷ [];
+      ledger = 1350 ∷ 1380 ∷ [];
+    }
+
+abbrev pub CutAfterByteHolds : Type 0
+CutAfterByteHolds = judgedSample cutAfterByte ≡ expectedOf cutAfterByte
+
 -- S1's "whole file": the header's bytes as document 01 prints them, and each step in four bytes.
 abbrev pub s1File : List ℕ
 s1File =
@@ -129,3 +144,49 @@ S1Printed = fileOf s1 ≡ s1File
 -- Its steps mean the ticks that the crate transfer reads as S1.
 abbrev pub S1Ticks : Type 0
 S1Ticks = tickLines s1 ≡ ticks s1Spans
+
+-- A file and lent buffers that are refused, with the number and the step; the rest of the answer is 0, and the buffers keep what they held.
+pub record RefusedSample : Type 0 where
+  pub file : List ℕ
+  pub bytes : List ℕ
+  pub ledger : List ℕ
+  pub number : ℕ
+  pub step : ℕ
+
+-- One that is refused before the room is looked at: no place is lent.
+abbrev pub refusedForm : (file : List ℕ) (number step : ℕ) → RefusedSample
+refusedForm file number step = record { file = file; bytes = []; ledger = []; number = number; step = step }
+
+-- A header and nothing after it.
+abbrev pub headerOnly : (version steps offset total size : ℕ) → List ℕ
+headerOnly version steps offset total size =
+    headerBytes (record { version = version; steps = steps; offset = offset; total = total; length = size })
+
+abbrev pub refusedSamples : List RefusedSample
+refusedSamples =
+    -- 1 to 5, each beside what a later test would refuse.
+    refusedForm [] 1 0
+    ∷ refusedForm (replicate 15 0) 1 0
+    ∷ refusedForm (headerOnly 2 16001 17 1 0) 2 0
+    ∷ refusedForm (headerOnly 1 16001 17 1 0) 3 0
+    ∷ refusedForm (headerOnly 1 16000 17 1 0) 4 0
+    ∷ refusedForm (headerOnly 1 0 16 1 17) 5 0
+    ∷ refusedForm (fileOf [] ++ (0 ∷ [])) 5 0
+    -- 6 and 7 name the step; 6 comes before 7 in one step, and an earlier step before a later one.
+    ∷ refusedForm (fileOf (200 ∶ 6 ∷ 0 ∶ 16 ∷ [])) 6 1
+    ∷ refusedForm (fileOf (200 ∶ 6 ∷ 50 ∶ 16 ∷ 0 ∶ 4 ∷ [])) 7 1
+    ∷ refusedForm (fileOf (200 ∶ 6 ∷ 50 ∶ 4 ∷ record { duration = 60; lines = 0; last = 1 } ∷ [])) 7 2
+    ∷ refusedForm (headerOnly 1 0 16 1 16) 8 0
+    -- 9: 999 and 1,999 places.
+    ∷ record { file = s1File; bytes = replicate 999 0xA5; ledger = markedLedger; number = 9; step = 0 }
+    ∷ record { file = s1File; bytes = markedBytes; ledger = replicate 1999 0xA5A5A5A5; number = 9; step = 0 }
+    ∷ []
+
+abbrev pub judgedRefused : RefusedSample → Judged
+judgedRefused r = judged standardLimits (r .file) (r .bytes) (r .ledger)
+
+abbrev pub expectedRefused : RefusedSample → Judged
+expectedRefused r = leaves (record { number = r .number; tick = 0; step = r .step; count = 0 }) (r .bytes) (r .ledger)
+
+abbrev pub RefusedSamplesHold : Type 0
+RefusedSamplesHold = map judgedRefused refusedSamples ≡ map expectedRefused refusedSamples

@@ -21,7 +21,7 @@ use Rattle.transfer.specs.Limits.{standardLimits}
 use Rattle.writer.specs.Card.{standardCard}
 use Rattle.writer.specs.WrittenSteps.{writtenSteps}
 use Rattle.writer.specs.Written.{mostBytes, writtenStepCount, writtenLength, recordingOf, Written, leaves, written}
-use Rattle.writer.specs.ReadBack.{ReadsBack}
+use Rattle.writer.specs.ReadBack.{ReadsBack, Writable}
 use Rattle.writer.specs.WrittenTicks.{writtenTicks}
 use Rattle.writer.specs.Put.{withSteps}
 use Rattle.writer.specs.declared.card.Card.{Card}
@@ -73,12 +73,11 @@ module _ (bytes d : List ℕ) where
   abbrev Promise : Written → Type 0
   Promise w =
       (w ≡ written standardCard bytes d)
-      × (w .answer .number ≡ 0 → ReadsBack standardLimits (first (w .answer .count) (w .destination)) bytes)
+      × (Writable bytes d → ReadsBack standardLimits (first (w .answer .count) (w .destination)) bytes)
 
-  pub refuses : (w : Written) (number : ℕ) → 1 ≤ number → w ≡ leaves (refused number 0) d
+  pub refuses : (w : Written) (number : ℕ) → (Writable bytes d → ⊥) → w ≡ leaves (refused number 0) d
       → written standardCard bytes d ≡ leaves (refused number 0) d → Promise w
-  refuses w number some e is =
-      (e ∙ sym is, λ zero. absurd (omega (arith, ap (λ (v : Written). v .answer .number) e)))
+  refuses w number due e is = (e ∙ sym is, λ writable. absurd (due writable))
 
   pub puts-down : (w : Written) → Bytes bytes → length bytes ≤ mostBytes
       → w ≡ leaves (accepted (writtenLength (length bytes))) (recordingOf standardCard bytes over d)
@@ -88,6 +87,6 @@ module _ (bytes d : List ℕ) where
       let begins : first (writtenLength (length bytes)) (recording over d) ≡ recording =
       ap (λ (n : ℕ). first n (recording over d)) (sym (counted standardCard bytes .bytes)) ∙ take-append-seam recording _ in (
         e ∙ sym all,
-        λ zero. subst⁻¹ (λ (v : Written). ReadsBack standardLimits (first (v .answer .count) (v .destination)) bytes) e
+        λ writable. subst⁻¹ (λ (v : Written). ReadsBack standardLimits (first (v .answer .count) (v .destination)) bytes) e
             (subst⁻¹ (λ (file : List ℕ). ReadsBack standardLimits file bytes) begins (read-back bytes is few)),
       )

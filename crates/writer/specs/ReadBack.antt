@@ -9,7 +9,7 @@ use Rattle.transfer.specs.Limits.{standardLimits}
 use Rattle.transfer.specs.declared.limits.Limits.{Limits}
 use Rattle.judge.specs.Judged.{Judged, byteRoom, ledgerRoom, judged}
 use Rattle.writer.specs.Card.{standardCard}
-use Rattle.writer.specs.Written.{mostBytes, recordingOf}
+use Rattle.writer.specs.Written.{mostBytes, writtenLength, recordingOf}
 use Rattle.writer.specs.declared.card.Card.{Card}
 
 -- 20, or 21 where there were no bytes.
@@ -35,3 +35,8 @@ GoodCard L card = (string : List ℕ) → Bytes string → length string ≤ mos
 -- Document 01's times are, under its own limits.
 abbrev pub ReadBackLaw : Type 0
 ReadBackLaw = GoodCard standardLimits standardCard
+
+-- No refusal that the writer may give is due.
+pub record Writable (bytes destination : List ℕ) : Type 0 where
+  pub few : length bytes ≤ mostBytes
+  pub room : writtenLength (length bytes) ≤ length destination

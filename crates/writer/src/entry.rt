@@ -5,7 +5,7 @@ ghost use lib.ListN.{length};
 ghost use Rattle.answer.specs.Lent.{_over_, first};
 ghost use Rattle.transfer.specs.Limits.{standardLimits};
 ghost use Rattle.writer.specs.Card.{standardCard};
-ghost use Rattle.writer.specs.ReadBack.{ReadsBack};
+ghost use Rattle.writer.specs.ReadBack.{ReadsBack, Writable};
 ghost use Rattle.writer.specs.Written.{mostBytes, writtenLength, recordingOf, leaves, written};
 use crate::card::Card;
 use crate::string;
@@ -22,13 +22,13 @@ const MOST_BYTES: usize = 799;
 // Refusal 11: fewer places than the recording needs.
 const SHORT_DESTINATION: u8 = 11;
 
-// Writes the sample recording of the bytes. Promised, first: the answer and the destination, whole, are what `written` gives, which refuses
-// nothing but 10 and 11 and then changes nothing. Second, demand 2: what was put down is read back by the judge, with room enough, as
-// these very bytes.
+// Writes the sample recording of the bytes. Promised, first: the answer and the destination, whole, are what `written` gives. Second,
+// demand 2: where no refusal is due, what was put down is read back by the judge, with room enough, as these very bytes.
 pub fn write(bytes: &[u8], destination: &mut [u8]) -> Answer
     ensures { λ r. ⌜
         (leaves r (now (destination .exit)) ≡ written standardCard (now (bytes .entry)) (now (destination .entry)))
-        × (r .number ≡ 0 → ReadsBack standardLimits (first (r .count) (now (destination .exit))) (now (bytes .entry))) ⌝ }
+        × (Writable (now (bytes .entry)) (now (destination .entry))
+        → ReadsBack standardLimits (first (r .count) (now (destination .exit))) (now (bytes .entry))) ⌝ }
 {
     if bytes.len() > MOST_BYTES {
         return Answer::refused(TOO_MANY_BYTES, 0);
