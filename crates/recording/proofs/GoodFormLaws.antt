@@ -1,5 +1,5 @@
--- A recording is not refused exactly if it has all that `GoodForm` says, and then its ticks are few. Assumes nothing.
-use Prim.Native.Nat.{ℕ, zero, suc, _+_, _*_, _<_, _≤_}
+-- A recording is not refused exactly if it has all that `GoodForm` says. Assumes nothing.
+use Prim.Native.Nat.{ℕ, zero, suc, _+_, _<_, _≤_}
 use mathlib.Core.List.{List}
 use mathlib.Core.Path.{_≡_, refl, sym, ap, _∙_}
 use native.Mathlib.Nat.{add-zero, zero-add}
@@ -8,10 +8,10 @@ use lib.Dec.{ltb}
 use borrow.Author.Tests.{le-ltb, eq-eqb}
 use lib.ListN.{length}
 use Rattle.recording.specs.Choice.{differs}
-use Rattle.recording.specs.Layout.{headerAt, stepAt, headerSize, longestDuration, stepPlace, fileLength}
+use Rattle.recording.specs.Layout.{headerAt, stepAt, headerSize, fileLength}
 use Rattle.recording.specs.Ticks.{stepsFrom, stepsOf, totalTicks, ticksOf}
 use Rattle.recording.specs.Form.{headerTest, stepTest, stepsForm, bodyForm, formOf}
-use Rattle.recording.specs.GoodForm.{Bytes, GoodStep, GoodForm, GoodFormLaw, FewTicksLaw}
+use Rattle.recording.specs.GoodForm.{GoodStep, GoodForm, GoodFormLaw}
 use Rattle.recording.specs.declared.form.Form.{Form}
 use Rattle.recording.specs.declared.form.Form.the-variants.{Good}
 use Rattle.recording.proofs.Tests.{good-else, good-after, same}
@@ -82,21 +82,3 @@ is-not-refused file n good =
 
 pub good-form : GoodFormLaw
 good-form file n = (is-good file n, is-not-refused file n)
-
-duration-fits : (file : List ℕ) → Bytes file → (i : ℕ) → stepAt file i .duration ≤ longestDuration
-duration-fits file bytes i = omega (arith, bytes (stepPlace i), bytes (stepPlace i + 1))
-
-total-fits : (file : List ℕ) → Bytes file → (k i : ℕ) → totalTicks (stepsFrom file i k) ≤ k * longestDuration
-unfolding totalTicks stepsFrom
-total-fits file bytes zero i = omega arith
-total-fits file bytes (suc k) i =
-    let first = duration-fits file bytes i in
-    let later = total-fits file bytes k (suc i) in
-    omega arith
-
-pub few-ticks : FewTicksLaw
-unfolding ticksOf stepsOf
-few-ticks file n bytes good =
-    let sum = total-fits file bytes (headerAt file .steps) 0 in
-    let same-sum = total-counts (stepsOf file) in
-    omega (arith, good .counted, good .few)

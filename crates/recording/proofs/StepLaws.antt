@@ -2,12 +2,11 @@
 use Prim.Native.Nat.{ℕ, zero, suc, _+_, _-_, _<_, _≤_}
 use mathlib.Core.List.{List, [], _∷_, _++_}
 use mathlib.Core.Path.{_≡_, refl, ap}
-use native.Mathlib.Nat.{sub-zero}
 use native.Mathlib.Numerals.{add-one}
 use native.Mathlib.Omega.{arith}
 use lib.ListN.{length, length-append, length-replicate}
-use Rattle.recording.specs.Layout.{headerAt, stepAt}
-use Rattle.recording.specs.Ticks.{stepsFrom, stepsOf, totalTicks, stepTicks, ticks, ticksOf}
+use Rattle.recording.specs.Layout.{stepAt}
+use Rattle.recording.specs.Ticks.{stepsFrom, totalTicks, stepTicks, ticks}
 use Rattle.recording.specs.declared.step.Step.{Step}
 
 one-less : (i n : ℕ) → i < n → n - i ≡ suc (n - (i + 1))
@@ -28,11 +27,6 @@ pub steps-count : (file : List ℕ) (n i : ℕ) → length (stepsFrom file i n) 
 unfolding stepsFrom
 steps-count file zero i = refl
 steps-count file (suc n) i = ap suc (steps-count file n (suc i))
-
--- Before the first step all ticks are left.
-pub ticks-all : (file : List ℕ) (n : ℕ) → n ≡ headerAt file .steps → ticksOf file ≡ ticks (stepsFrom file 0 (n - 0))
-unfolding ticksOf stepsOf
-ticks-all file n e = rw (sub-zero, e)
 
 pub ticks-begin : (file : List ℕ) (i n : ℕ) (s : Step) → s ≡ stepAt file i → i < n
     → ticks (stepsFrom file i (n - i)) ≡ stepTicks s ++ ticks (stepsFrom file (i + 1) (n - (i + 1)))

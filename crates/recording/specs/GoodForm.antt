@@ -1,12 +1,12 @@
 -- What holds of a recording of good form.
-use Prim.Native.Nat.{ℕ, _*_, _<_, _≤_}
+use Prim.Native.Nat.{ℕ, _<_, _≤_}
 use mathlib.Core.List.{List}
 use mathlib.Core.Logic.{_↔_}
 use mathlib.Core.Path.{_≡_}
 use lib.ListN.{length}
 use Rattle.recording.specs.Form.{formOf}
 use Rattle.recording.specs.Layout.{byteAt, headerAt, stepAt, headerSize, goodVersion, mostSteps}
-use Rattle.recording.specs.Layout.{longestDuration, lineBound, fileLength}
+use Rattle.recording.specs.Layout.{lineBound, fileLength}
 use Rattle.recording.specs.Ticks.{ticksOf}
 use Rattle.recording.specs.declared.form.Form.the-variants.{Good}
 use Rattle.recording.specs.declared.step.Step.{Step}
@@ -36,7 +36,3 @@ GoodFormLaw = (file : List ℕ) (n : ℕ) → (formOf file ≡ Good n) ↔ GoodF
 -- A list that stands for bytes, as the contents of a lent file do.
 abbrev pub Bytes : List ℕ → Type 0
 Bytes file = (at : ℕ) → byteAt file at < 256
-
--- Then it has few ticks, so that a tick fits 32 bits.
-abbrev pub FewTicksLaw : Type 0
-FewTicksLaw = (file : List ℕ) (n : ℕ) → Bytes file → GoodForm file n → length (ticksOf file) ≤ mostSteps * longestDuration
