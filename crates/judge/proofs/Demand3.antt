@@ -1,17 +1,15 @@
 -- Demand 3 about a file, from demand 3 over its tick list. Assumes nothing.
-use Prim.Native.Nat.{ℕ, suc, _≤_}
-use mathlib.Core.List.{List, [], _∷_, _++_, map}
-use mathlib.Core.Logic.{_↔_}
-use mathlib.Core.Path.{_≡_, refl, sym, ap, subst, subst⁻¹, _∙_}
-use native.Mathlib.Omega.{arith}
-use lib.ListN.{length, take, drop}
+use Prim.Native.Nat.{ℕ}
+use mathlib.Core.List.{List}
+use mathlib.Core.Path.{_≡_, sym, ap, subst, subst⁻¹, _∙_}
+use lib.ListN.{length, take}
 use lib.Seq.{take-append-seam}
 use Rattle.recording.specs.Ticks.{stepsOf}
 use Rattle.recording.specs.declared.step.Step.{Step}
 use Rattle.recording.proofs.GoodFormLaws.{good-form}
 use Rattle.transfer.specs.Demand3.{Consistent, shownSender, shownReceiver, Explains, CompleteWith as CompleteTicks}
 use Rattle.transfer.specs.Limits.{standardLimits}
-use Rattle.transfer.specs.Outcome.{Outcome, outcome}
+use Rattle.transfer.specs.Outcome.{outcome}
 use Rattle.transfer.specs.Pair.{values, SameOrLater}
 use Rattle.transfer.specs.Verdicts.{verdictNumber}
 use Rattle.transfer.specs.declared.limits.Limits.{Limits}
@@ -19,7 +17,7 @@ use Rattle.transfer.specs.declared.lines.Lines.{Lines}
 use Rattle.transfer.specs.declared.phase.Byte.{Byte}
 use Rattle.transfer.proofs.Demand3.{demand3, standard-consistent}
 use Rattle.transfer.proofs.Facts.{only-complete-is-20}
-use Rattle.judge.specs.Judged.{Judged, tickList, twoTicks, verdictLeft, judged}
+use Rattle.judge.specs.Judged.{Judged, tickList, verdictLeft, judged}
 use Rattle.judge.specs.Demand3.{GoodWithRoom, CompleteWith, dated, FileDemand3}
 use Rattle.judge.proofs.JudgedLaws.{is-verdict}
 use Rattle.judge.proofs.LedgerLists.{length-values, reads-ledger}

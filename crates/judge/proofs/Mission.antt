@@ -24,7 +24,6 @@ use Rattle.transfer.specs.Outcome.{Outcome, stateAfter, handedOver, outcome}
 use Rattle.transfer.specs.Pair.{values}
 use Rattle.transfer.specs.Verdicts.{verdictNumber}
 use Rattle.transfer.specs.declared.limits.Limits.{Limits}
-use Rattle.transfer.specs.declared.verdict.Verdict.the-variants.{Complete, Cut}
 use Rattle.transfer.proofs.DecisionTicks.{decision-tick}
 use Rattle.transfer.proofs.Demand3.{demand3}
 use Rattle.transfer.proofs.Facts.{only-complete-is-20, pair-sends-bytes}

@@ -5,8 +5,7 @@ use mathlib.Core.List.{List}
 use mathlib.Core.Logic.{_↔_}
 use Rattle.answer.specs.declared.Answer.{Answer}
 use Rattle.recording.specs.Layout.{headerAt}
-use Rattle.recording.specs.Ticks.{stepsFrom, stepsOf, totalTicks}
-use Rattle.recording.specs.declared.step.Step.{Step}
+use Rattle.recording.specs.Ticks.{stepsFrom, totalTicks}
 use Rattle.transfer.specs.Demand3.{Consistent}
 use Rattle.transfer.specs.Outcome.{stateAfter}
 use Rattle.transfer.specs.States.{firstState}

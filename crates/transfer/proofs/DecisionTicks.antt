@@ -23,7 +23,7 @@ use Rattle.transfer.specs.declared.verdict.Fault.the-variants.{Attention
 use Rattle.transfer.specs.declared.verdict.Decision.{Decision}
 use Rattle.transfer.specs.declared.verdict.Verdict.{Verdict}
 use Rattle.transfer.specs.declared.verdict.Verdict.the-variants.{Complete, Cut, Broken}
-use Rattle.transfer.proofs.Rows.{Climbs, stops, goes, hands, climbs, finished, latest, settled}
+use Rattle.transfer.proofs.Rows.{Climbs, stops, goes, hands, climbs, finished, latest}
 use Rattle.transfer.proofs.Run.{undecided}
 
 -- After n ticks: those that decided nothing are passed, a deciding tick is one of them, and so is a finish tick.

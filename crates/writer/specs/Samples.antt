@@ -3,7 +3,6 @@ use Prim.Native.Nat.{ℕ}
 use mathlib.Core.List.{List, [], _∷_, _++_, map}
 use mathlib.Core.Path.{_≡_}
 use lib.ListN.{replicate}
-use Rattle.answer.specs.declared.Answer.{Answer}
 use Rattle.recording.specs.FileOf.{fileOf}
 use Rattle.recording.specs.declared.step.Step.{Step}
 use Rattle.judge.specs.Samples.{_∶_, zeros, s1File}
