@@ -17,7 +17,7 @@ use Rattle.transfer.specs.declared.lines.Lines.{Lines}
 use Rattle.transfer.specs.declared.phase.Byte.{Byte}
 use Rattle.transfer.proofs.Demand3.{demand3, standard-consistent}
 use Rattle.transfer.proofs.Facts.{only-complete-is-20}
-use Rattle.judge.specs.Judged.{Judged, tickList, verdictLeft, judged}
+use Rattle.judge.specs.Judged.{Judged, tickList, verdictLeaves, judged}
 use Rattle.judge.specs.Demand3.{GoodWithRoom, CompleteWith, dated, FileDemand3}
 use Rattle.judge.proofs.JudgedLaws.{is-verdict}
 use Rattle.judge.proofs.LedgerLists.{length-values, reads-ledger}
@@ -25,7 +25,7 @@ use Rattle.judge.proofs.LedgerLists.{length-values, reads-ledger}
 -- What is left at a verdict is complete with a string exactly if the tick list is.
 module _ (L : Limits) (w : List Lines) (steps : List Step) (b g : List ℕ) where
   abbrev verdictOf : Judged
-  verdictOf = verdictLeft steps (outcome L w) b g
+  verdictOf = verdictLeaves steps (outcome L w) b g
 
   abbrev handed : List Byte
   handed = outcome L w .bytes
@@ -58,7 +58,7 @@ module _ (L : Limits) (times : Consistent L) (file b g : List ℕ) where
   abbrev w : List Lines
   w = tickList file
 
-  at-verdict : FileDemand3 L file (verdictLeft (stepsOf file) (outcome L (tickList file)) b g)
+  at-verdict : FileDemand3 L file (verdictLeaves (stepsOf file) (outcome L (tickList file)) b g)
   at-verdict =
       let ticks = demand3 L times (tickList file) in
       let steps = stepsOf file in

@@ -9,8 +9,8 @@ use lib.Dec.{ltb}
 use lib.ListN.{length}
 use borrow.Author.Tests.{ltb-true, ltb-false, lt-ltb, le-ltb}
 use Rattle.recording.specs.Choice.{if_then_else_}
-use Rattle.recording.specs.Layout.{stepAt}
-use Rattle.recording.specs.Ticks.{stepsFrom, totalTicks}
+use Rattle.recording.specs.Layout.{headerAt, stepAt}
+use Rattle.recording.specs.Ticks.{stepsFrom, stepsOf, totalTicks}
 use Rattle.recording.specs.declared.step.Step.{Step}
 use Rattle.recording.proofs.StepLaws.{steps-begin, steps-end}
 use Rattle.judge.specs.Judged.{stepHolding}
@@ -29,7 +29,7 @@ later-holds tick s steps h = rw (le-ltb tick (s .duration) h)
 -- A tick before the end is held by a step that has begun by then and is not over.
 module _ (file : List ℕ) where
   holds-from : (n i tick : ℕ) → tick < totalTicks (stepsFrom file i n) → (let k = stepHolding tick (stepsFrom file i n) in
-      (totalTicks (stepsFrom file i k) ≤ tick) × (tick < totalTicks (stepsFrom file i (suc k))))
+      (k < n) × (totalTicks (stepsFrom file i k) ≤ tick) × (tick < totalTicks (stepsFrom file i (suc k))))
   unfolding totalTicks stepsFrom stepHolding
   holds-from zero i tick h = absurd (omega arith)
   holds-from (suc n) i tick h = by-test (holds-from n (suc i) (tick - d)) (ltb tick d) refl
@@ -41,17 +41,21 @@ module _ (file : List ℕ) where
       later = stepHolding (tick - d) (stepsFrom file (suc i) n)
 
       by-test : (tick - d < totalTicks (stepsFrom file (suc i) n)
-          → (totalTicks (stepsFrom file (suc i) later) ≤ tick - d) × (tick - d < totalTicks (stepsFrom file (suc i) (suc later))))
+          → (later < n) × (totalTicks (stepsFrom file (suc i) later) ≤ tick - d)
+          × (tick - d < totalTicks (stepsFrom file (suc i) (suc later))))
           → (t : Bool) → ltb tick d ≡ t → (let k = if t then 0 else suc later in
-          (totalTicks (stepsFrom file i k) ≤ tick) × (tick < totalTicks (stepsFrom file i (suc k))))
-      by-test rest true e = (omega arith, omega (arith, ltb-true tick d e))
+          (k < suc n) × (totalTicks (stepsFrom file i k) ≤ tick) × (tick < totalTicks (stepsFrom file i (suc k))))
+      by-test rest true e = (omega arith, omega arith, omega (arith, ltb-true tick d e))
       by-test rest false e =
           let past = ltb-false tick d e in
           let r = rest (omega arith) in
-          (omega (arith, r .0), omega (arith, r .1))
+          (omega (arith, r .0), omega (arith, r .1), omega (arith, r .2))
 
-  pub held-by-step : (n tick : ℕ) → tick < totalTicks (stepsFrom file 0 n) → Holds file tick (stepHolding tick (stepsFrom file 0 n))
-  held-by-step n tick h = let r = holds-from n 0 tick h in record { begun = r .0; not-over = r .1 }
+  pub held-by-step : (tick : ℕ) → tick < totalTicks (stepsOf file) → Holds file tick (stepHolding tick (stepsOf file))
+  unfolding stepsOf
+  held-by-step tick h =
+      let r = holds-from (headerAt file .steps) 0 tick h in
+      record { in-file = r .0; begun = r .1; not-over = r .2 }
 
 -- No step holds the tick at the end.
 pub held-at-the-end : (steps : List Step) → stepHolding (totalTicks steps) steps ≡ length steps

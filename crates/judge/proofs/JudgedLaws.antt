@@ -13,7 +13,7 @@ use Rattle.recording.specs.declared.form.Form.the-variants.{Good, Refused}
 use Rattle.recording.specs.declared.refusal.Refusal.{Refusal}
 use Rattle.transfer.specs.Outcome.{outcome}
 use Rattle.transfer.specs.declared.limits.Limits.{Limits}
-use Rattle.judge.specs.Judged.{leaves, byteRoom, ledgerRoom, tickList, verdictLeft, judgedInForm, judged}
+use Rattle.judge.specs.Judged.{leaves, byteRoom, ledgerRoom, tickList, verdictLeaves, judgedInForm, judged}
 
 -- The steps of a recording of good form, as a loop over n steps reads them.
 pub good-steps : (file : List ℕ) (n : ℕ) → GoodForm file n → stepsOf file ≡ stepsFrom file 0 n
@@ -37,7 +37,7 @@ module _ (L : Limits) (file b g : List ℕ) where
         ap (λ form. judgedInForm L file form b g) good ∙ rw (le-ltb (length b) byteRoom h, lt-ltb (length g) ledgerRoom k)
 
     pub is-verdict : byteRoom ≤ length b → ledgerRoom ≤ length g
-        → judged L file b g ≡ verdictLeft (stepsOf file) (outcome L (tickList file)) b g
+        → judged L file b g ≡ verdictLeaves (stepsOf file) (outcome L (tickList file)) b g
     unfolding judged judgedInForm
     is-verdict h k =
         ap (λ form. judgedInForm L file form b g) good ∙ rw (le-ltb (length b) byteRoom h, le-ltb (length g) ledgerRoom k)

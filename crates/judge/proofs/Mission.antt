@@ -19,17 +19,18 @@ use Rattle.recording.specs.declared.step.Step.{Step}
 use Rattle.recording.proofs.GoodFormLaws.{good-form}
 use Rattle.recording.proofs.StepLaws.{steps-count, total-counts}
 use Rattle.transfer.specs.Demand3.{Consistent}
+use Rattle.transfer.specs.Limits.{standardLimits}
 use Rattle.transfer.specs.Lines.{linesOf}
 use Rattle.transfer.specs.Outcome.{Outcome, stateAfter, handedOver, outcome}
 use Rattle.transfer.specs.Pair.{values}
 use Rattle.transfer.specs.Verdicts.{verdictNumber}
 use Rattle.transfer.specs.declared.limits.Limits.{Limits}
 use Rattle.transfer.proofs.DecisionTicks.{decision-tick}
-use Rattle.transfer.proofs.Demand3.{demand3}
+use Rattle.transfer.proofs.Demand3.{demand3, standard-consistent}
 use Rattle.transfer.proofs.Facts.{only-complete-is-20, pair-sends-bytes}
-use Rattle.judge.specs.Judged.{Judged, leaves, byteRoom, ledgerRoom, tickLines, tickList, twoTicks, stepHolding, verdictLeft}
+use Rattle.judge.specs.Judged.{Judged, leaves, byteRoom, ledgerRoom, tickLines, tickList, twoTicks, stepHolding, verdictLeaves}
 use Rattle.judge.specs.Demand3.{GoodWithRoom}
-use Rattle.judge.specs.Mission.{IsVerdict, Holds, AtTheEnd, given, Finished, Mission, MissionLaw}
+use Rattle.judge.specs.Mission.{IsVerdict, Holds, AtTheEnd, given, Finished, Mission, MissionLaw, StandardMission}
 use Rattle.judge.proofs.HoldingLaws.{held-by-step, held-at-the-end}
 use Rattle.judge.proofs.JudgedLaws.{good-steps, is-refused, few-places, few-ledger-places, is-verdict}
 use Rattle.judge.proofs.LedgerLists.{length-values}
@@ -53,7 +54,7 @@ module _ (L : Limits) (times : Consistent L) (file bytes ledger : List ℕ) wher
   -- What the judge gives is a refusal, which changes nothing, or a verdict.
   data Kind : Type 0 where
     refusal : (number step : ℕ) → number < 20 → got ≡ leaves (refused number step) bytes ledger → Kind
-    verdict : GoodWithRoom file bytes ledger → got ≡ verdictLeft (stepsOf file) read bytes ledger → Kind
+    verdict : GoodWithRoom file bytes ledger → got ≡ verdictLeaves (stepsOf file) read bytes ledger → Kind
 
   by-form : (form : Form) → formOf file ≡ form → Kind
   by-form (Refused r step) e = refusal (refusalNumber r) step (refusal-below-20 r) (is-refused L file bytes ledger r step e)
@@ -71,7 +72,7 @@ module _ (L : Limits) (times : Consistent L) (file bytes ledger : List ℕ) wher
           (is-verdict L file bytes ledger n e hb hg)
 
   -- The number of a verdict, and of a refusal.
-  is-number : got ≡ verdictLeft (stepsOf file) read bytes ledger → verdictNumber (read .decision .verdict) ≡ got .answer .number
+  is-number : got ≡ verdictLeaves (stepsOf file) read bytes ledger → verdictNumber (read .decision .verdict) ≡ got .answer .number
   is-number is = ap (λ (j : Judged). j .answer .number) (sym is)
 
   no-verdict : (number step : ℕ) → number < 20 → got ≡ leaves (refused number step) bytes ledger → 20 ≤ got .answer .number → ⊥
@@ -103,7 +104,7 @@ module _ (L : Limits) (times : Consistent L) (file bytes ledger : List ℕ) wher
   unfolding ticks stateAfter handedOver outcome stepHolding twoTicks
   cuts g e =
       is-verdict L file bytes ledger (g .steps) (good-form file (g .steps) .1 (g .good-form)) (g .byte-room) (g .ledger-room)
-      ∙ ap (λ (steps : List Step). verdictLeft steps (outcome L (tickLines steps)) bytes ledger)
+      ∙ ap (λ (steps : List Step). verdictLeaves steps (outcome L (tickLines steps)) bytes ledger)
       (has-no-steps (g .steps) (g .good-form) e)
 
   -- Whether a refusal is due.
@@ -144,7 +145,7 @@ module _ (L : Limits) (times : Consistent L) (file bytes ledger : List ℕ) wher
   held (verdict form is) v h =
       let tick = decision-tick L (tickList file) .inside (λ cut. h (sym (is-number is) ∙ ap verdictNumber cut)) in
       subst⁻¹ (λ (j : Judged). Holds file (j .answer .tick) (j .answer .step)) is
-      (held-by-step file (headerAt file .steps) (read .decision .tick) (omega (arith, ticks-of file, tick)))
+      (held-by-step file (read .decision .tick) (omega (arith, ticks-of file, tick)))
 
   all-lines : Mission L file bytes ledger
   all-lines =
@@ -161,3 +162,6 @@ module _ (L : Limits) (times : Consistent L) (file bytes ledger : List ℕ) wher
 
 pub mission : MissionLaw
 mission L times file bytes ledger = all-lines L times file bytes ledger
+
+pub standard-mission : StandardMission
+standard-mission = mission standardLimits standard-consistent

@@ -20,7 +20,7 @@ use Rattle.transfer.specs.declared.lines.Lines.{Lines}
 use Rattle.transfer.specs.declared.state.State.{State}
 use Rattle.transfer.specs.declared.verdict.Decision.{Decision}
 use Rattle.transfer.proofs.TickLaws.{counts}
-use Rattle.judge.specs.Judged.{leaves, byteRoom, ledgerRoom, tickLines, twoTicks, stepHolding, verdictAnswer, verdictLeft, judged}
+use Rattle.judge.specs.Judged.{leaves, byteRoom, ledgerRoom, tickLines, twoTicks, stepHolding, verdictAnswer, verdictLeaves, judged}
 use Rattle.judge.specs.Reading.{ticksFrom, Reached, reached, readInto, stateAnswer}
 use Rattle.judge.proofs.JudgedLaws.{good-steps, is-verdict}
 
@@ -35,7 +35,7 @@ state-answer steps s d step number ed es en =
 -- A tick list that was read into lent buffers, and the answer to the state reached, are the verdict's.
 read-verdict : (L : Limits) (steps : List Step) (w : List Lines) (b g : List ℕ)
     → leaves (stateAnswer steps (readInto L w b g .state)) (readInto L w b g .bytes) (readInto L w b g .ledger)
-    ≡ verdictLeft steps (outcome L w) b g
+    ≡ verdictLeaves steps (outcome L w) b g
 unfolding readInto outcome
 read-verdict L steps w b g =
     let h = handedOver L firstState w in
@@ -54,5 +54,5 @@ is-read L file b g n e hb hg K s b′ g′ a ek er ea =
     ap (λ (x : Answer). leaves x b′ g′) ea
     ∙ ap (λ (r : Reached). leaves (stateAnswer (stepsFrom file 0 n) (r .state)) (r .bytes) (r .ledger)) read
     ∙ read-verdict L (stepsFrom file 0 n) (ticksFrom file 0 n) b g
-    ∙ ap (λ (steps : List Step). verdictLeft steps (outcome L (tickLines steps)) b g) (sym (good-steps file n good))
+    ∙ ap (λ (steps : List Step). verdictLeaves steps (outcome L (tickLines steps)) b g) (sym (good-steps file n good))
     ∙ sym (is-verdict L file b g n e hb hg)

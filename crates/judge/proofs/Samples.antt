@@ -1,4 +1,5 @@
--- The starred samples hold, by one computation, and so do the refusals; S1's file is the one that document 01 prints. Assumes nothing.
+-- The starred samples hold, by one computation, and so do the further one and the refusals; S1's file is the one that document 01 prints.
+-- Assumes nothing.
 use mathlib.Core.Path.{refl}
 use Rattle.recording.specs.FileOf.{headerBytes, stepBytes, stepsBytes, fileOf}
 use Rattle.recording.specs.Form.{headerTest, stepTest, stepsForm, bodyForm, formOf}
@@ -23,7 +24,8 @@ unfolding below upTo next same withBit handover afterBit follow nextState stateA
 cut-after-byte-holds = refl
 
 pub refused-samples-hold : RefusedSamplesHold
-unfolding headerBytes stepBytes stepsBytes fileOf headerTest stepTest stepsForm bodyForm formOf stepsFrom stepsOf totalTicks judgedInForm judged
+unfolding headerBytes stepBytes stepsBytes fileOf headerTest stepTest stepsForm bodyForm formOf
+    stepsFrom stepsOf totalTicks judgedInForm judged
 refused-samples-hold = refl
 
 pub s1-printed : S1Printed

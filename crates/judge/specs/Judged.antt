@@ -61,8 +61,8 @@ twoTicks [] = []
 twoTicks (b ∷ bytes) = b .«let_go» ∷ b .take ∷ twoTicks bytes
 
 -- "The byte buffer begins with those; the ledger .. begins with two ticks for each byte .. All further places keep what they held."
-abbrev pub verdictLeft : List Step → Outcome → (bytes ledger : List ℕ) → Judged
-verdictLeft steps o bytes ledger =
+abbrev pub verdictLeaves : List Step → Outcome → (bytes ledger : List ℕ) → Judged
+verdictLeaves steps o bytes ledger =
     leaves (verdictAnswer steps (o .decision) (length (o .bytes))) (values (o .bytes) over bytes) (twoTicks (o .bytes) over ledger)
 
 -- A recording whose form was tested. At a refusal "no lent byte or number changes".
@@ -72,7 +72,8 @@ judgedInForm L file (Good n) bytes ledger =
     -- 9: "byte buffer under 1,000 places, or ledger under 2,000"
     if ltb (length bytes) byteRoom then leaves (refused 9 0) bytes ledger else
     if ltb (length ledger) ledgerRoom then leaves (refused 9 0) bytes ledger else
-    verdictLeft (stepsOf file) (outcome L (tickList file)) bytes ledger
+    verdictLeaves (stepsOf file) (outcome L (tickList file)) bytes ledger
 
+-- What the judge gives: the form is tested first (1 to 8), then the room (9), and then the recording is read.
 unfoldable pub judged : Limits → (file bytes ledger : List ℕ) → Judged
 judged L file bytes ledger = judgedInForm L file (formOf file) bytes ledger

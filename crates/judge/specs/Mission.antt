@@ -7,6 +7,7 @@ use Rattle.answer.specs.declared.Answer.{Answer}
 use Rattle.recording.specs.Layout.{headerAt}
 use Rattle.recording.specs.Ticks.{stepsFrom, totalTicks}
 use Rattle.transfer.specs.Demand3.{Consistent}
+use Rattle.transfer.specs.Limits.{standardLimits}
 use Rattle.transfer.specs.Outcome.{stateAfter}
 use Rattle.transfer.specs.States.{firstState}
 use Rattle.transfer.specs.declared.limits.Limits.{Limits}
@@ -21,6 +22,7 @@ pub record IsVerdict (number : ℕ) : Type 0 where
 
 -- The step of a file that holds a tick: it has begun by then, and is not over.
 pub record Holds (file : List ℕ) (tick step : ℕ) : Type 0 where
+  pub in-file : step < headerAt file .steps
   pub begun : totalTicks (stepsFrom file 0 step) ≤ tick
   pub not-over : tick < totalTicks (stepsFrom file 0 (suc step))
 
@@ -62,3 +64,7 @@ module _ (L : Limits) (file bytes ledger : List ℕ) where
 -- For all times that are consistent.
 abbrev pub MissionLaw : Type 0
 MissionLaw = (L : Limits) → Consistent L → (file bytes ledger : List ℕ) → Mission L file bytes ledger
+
+-- And so for document 01's own.
+abbrev pub StandardMission : Type 0
+StandardMission = (file bytes ledger : List ℕ) → Mission standardLimits file bytes ledger

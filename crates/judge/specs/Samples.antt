@@ -1,4 +1,5 @@
--- Document 01, "Sample recordings": the starred ones, in its order, each judged as a whole file; and every refusal.
+-- Document 01, "Sample recordings": the starred ones, in its order, each judged as a whole file; a cut after a byte;
+-- and every refusal.
 use Prim.Native.Nat.{ℕ, zero, suc}
 use mathlib.Core.List.{List, [], _∷_, _++_, map}
 use mathlib.Core.Path.{_≡_}
@@ -172,6 +173,7 @@ refusedSamples =
     ∷ refusedForm (headerOnly 1 16000 17 1 0) 4 0
     ∷ refusedForm (headerOnly 1 0 16 1 17) 5 0
     ∷ refusedForm (fileOf [] ++ (0 ∷ [])) 5 0
+    ∷ refusedForm (headerOnly 1 1 16 1 20) 5 0
     -- 6 and 7 name the step; 6 comes before 7 in one step, and an earlier step before a later one.
     ∷ refusedForm (fileOf (200 ∶ 6 ∷ 0 ∶ 16 ∷ [])) 6 1
     ∷ refusedForm (fileOf (200 ∶ 6 ∷ 50 ∶ 16 ∷ 0 ∶ 4 ∷ [])) 7 1

@@ -9,7 +9,7 @@ use answer::Answer;
 use recording::Form;
 use transfer::Limits;
 
-// Refusal 9: fewer places than these are lent, in either buffer.
+// Refusal 9: a byte buffer under 1,000 places, or a ledger under 2,000.
 const SHORT_BUFFERS: u8 = 9;
 
 const BYTE_ROOM: usize = 1000;

@@ -5,7 +5,7 @@ ghost use lib.ListN.{length};
 ghost use Rattle.judge.specs.Reading.{withByte, withTicks};
 use transfer::State;
 
-// The byte's value, if the tick from `before` to `after` handed one over.
+// Stores the byte's value in its place, if the tick from `before` to `after` handed a byte over.
 pub(crate) fn store_byte(bytes: &mut [u8], before: State, after: State)
     requires { ⌜ before .count < length (now bytes) ⌝ }
     ensures { λ _. ⌜ now (bytes .exit) ≡ withByte (now (bytes .entry)) before after ⌝ }
@@ -17,7 +17,7 @@ pub(crate) fn store_byte(bytes: &mut [u8], before: State, after: State)
     }
 }
 
-// The byte's two ticks, likewise.
+// Stores the byte's two ticks, likewise.
 pub(crate) fn store_ticks(ledger: &mut [u32], before: State, after: State)
     requires { ⌜ 2 * before .count + 1 < length (now ledger) ⌝ }
     ensures { λ _. ⌜ now (ledger .exit) ≡ withTicks (now (ledger .entry)) before after ⌝ }

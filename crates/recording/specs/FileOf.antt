@@ -49,7 +49,7 @@ abbrev pub Recordable : List Step → Type 0
 Recordable [] = Unit {0}
 Recordable (s ∷ steps) = (GoodStep s × (s .duration ≤ longestDuration)) × Recordable steps
 
--- Few such steps make a recording of good form that has these very steps.
+-- At most 16,000 such steps make a recording of good form that has these very steps.
 pub record FileOf (steps : List Step) : Type 0 where
   pub good : GoodForm (fileOf steps) (length steps)
   pub steps-back : stepsOf (fileOf steps) ≡ steps

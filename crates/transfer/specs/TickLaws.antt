@@ -11,7 +11,7 @@ use Rattle.transfer.specs.declared.lines.Lines.{Lines}
 use Rattle.transfer.specs.declared.state.State.{State}
 use Rattle.transfer.specs.declared.verdict.Verdict.the-variants.{Cut}
 
--- One tick passes one tick at most, and counts one byte at most.
+-- A tick that is read moves the state's tick on by one at most, and its count too.
 pub record OneTick (s t : State) : Type 0 where
   pub tick-most : t .tick ≤ s .tick + 1
   pub count-least : s .count ≤ t .count

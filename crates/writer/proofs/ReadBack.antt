@@ -14,7 +14,7 @@ use Rattle.recording.proofs.GoodFormLaws.{good-form}
 use Rattle.transfer.specs.Limits.{standardLimits}
 use Rattle.transfer.specs.Outcome.{Outcome, outcome}
 use Rattle.transfer.specs.Verdicts.{verdictNumber}
-use Rattle.judge.specs.Judged.{tickLines, verdictLeft}
+use Rattle.judge.specs.Judged.{tickLines, verdictLeaves}
 use Rattle.judge.proofs.JudgedLaws.{is-verdict}
 use Rattle.judge.proofs.LedgerLists.{length-values}
 use Rattle.writer.specs.Card.{standardCard}
@@ -27,9 +27,9 @@ use Rattle.writer.proofs.WrittenRecordable.{written-recordable}
 
 -- A verdict over the ticks that are put down for a string, with exactly its bytes.
 read-string : (steps : List Step) (string : List ℕ) → Bytes string → (bytes ledger : List ℕ)
-    → ReadAs string bytes (verdictLeft steps (outcome standardLimits (writtenLines standardCard string)) bytes ledger)
+    → ReadAs string bytes (verdictLeaves steps (outcome standardLimits (writtenLines standardCard string)) bytes ledger)
 read-string steps [] is bytes ledger =
-    subst⁻¹ (λ (o : Outcome). ReadAs [] bytes (verdictLeft steps o bytes ledger)) empty-outcome
+    subst⁻¹ (λ (o : Outcome). ReadAs [] bytes (verdictLeaves steps o bytes ledger)) empty-outcome
     (record { number = refl; count = refl; buffer = refl })
 read-string steps (first ∷ others) is bytes ledger =
     let c = sent-complete first others is in
@@ -58,6 +58,6 @@ read-back string is few bytes ledger hb hg =
     let good = good-form file _ .1 (is-recording string few .good) in
     subst⁻¹ (ReadAs string bytes)
     (is-verdict standardLimits file bytes ledger _ good hb hg
-    ∙ ap (λ (steps : List Step). verdictLeft (stepsOf file) (outcome standardLimits (tickLines steps)) bytes ledger)
+    ∙ ap (λ (steps : List Step). verdictLeaves (stepsOf file) (outcome standardLimits (tickLines steps)) bytes ledger)
     (is-recording string few .steps-back))
     (read-string (stepsOf file) string is bytes ledger)

@@ -32,7 +32,7 @@ ReadsBack L file string =
 abbrev pub GoodCard : Limits → Card → Type 0
 GoodCard L card = (string : List ℕ) → Bytes string → length string ≤ mostBytes → ReadsBack L (recordingOf card string) string
 
--- Document 01's times are, under its own limits.
+-- The standard card is good under the standard limits.
 abbrev pub ReadBackLaw : Type 0
 ReadBackLaw = GoodCard standardLimits standardCard
 

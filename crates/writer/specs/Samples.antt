@@ -10,18 +10,18 @@ use Rattle.writer.specs.Card.{standardCard}
 use Rattle.writer.specs.Written.{recordingOf, Written, leaves, written}
 
 -- "No bytes: (1,1) 200, (0,1) 50, (0,0) 220, (0,1) 80, (0,0) 300."
-abbrev pub noBytes : List Step
-noBytes = 200 ∶ 6 ∷ 50 ∶ 4 ∷ 220 ∶ 0 ∷ 80 ∶ 4 ∷ 300 ∶ 0 ∷ []
+abbrev pub noByteSteps : List Step
+noByteSteps = 200 ∶ 6 ∷ 50 ∶ 4 ∷ 220 ∶ 0 ∷ 80 ∶ 4 ∷ 300 ∶ 0 ∷ []
 
 -- A byte that is not the last, and the last one.
-abbrev pub twoBytes : List Step
-twoBytes =
+abbrev pub twoByteSteps : List Step
+twoByteSteps =
     200 ∶ 6 ∷ 50 ∶ 4 ∷ 60 ∶ 0 ∷ 70 ∶ 6 ∷ 60 ∶ 4
     ∷ (zeros 5 ++ (70 ∶ 6 ∷ 60 ∶ 4 ∷ 70 ∶ 2 ∷ 60 ∶ 0 ∷ 30 ∶ 2 ∷ 200 ∶ 6 ∷ 50 ∶ 4 ∷ 220 ∶ 0 ∷ 80 ∶ 4 ∷ 40 ∶ 0
     ∷ (zeros 7 ++ (70 ∶ 6 ∷ 60 ∶ 4 ∷ 30 ∶ 2 ∷ 200 ∶ 6 ∷ 50 ∶ 4 ∷ 100 ∶ 0 ∷ []))))
 
 abbrev pub WritesTwoBytes : Type 0
-WritesTwoBytes = recordingOf standardCard (0x41 ∷ 0x80 ∷ []) ≡ fileOf twoBytes
+WritesTwoBytes = recordingOf standardCard (0x41 ∷ 0x80 ∷ []) ≡ fileOf twoByteSteps
 
 -- The bytes and the destination that the writer is given, its number and count, and what the destination then holds.
 pub record Writing : Type 0 where
@@ -40,7 +40,7 @@ writings =
     -- "S1. The byte 0x41, whole file", byte for byte, and two further places.
     writing (0x41 ∷ []) (replicate 118 0xA5) 0 116 (s1File ++ (0xA5 ∷ 0xA5 ∷ []))
     -- No bytes, with places enough and with one too few.
-    ∷ writing [] (replicate 36 0xA5) 0 36 (fileOf noBytes)
+    ∷ writing [] (replicate 36 0xA5) 0 36 (fileOf noByteSteps)
     ∷ writing [] (replicate 35 0xA5) 11 0 (replicate 35 0xA5)
     -- 799 bytes are not too many; 800 are, and that is tested first.
     ∷ writing (replicate 799 0) [] 11 0 []

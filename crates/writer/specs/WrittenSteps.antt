@@ -53,6 +53,7 @@ module _ (card : Card) where
   abbrev pub emptySteps : List Step
   emptySteps = opening ++ acknowledged (card .«no_response»)
 
+  -- The steps of the recording of a string.
   unfoldable pub writtenSteps : List ℕ → List Step
   writtenSteps [] = emptySteps
   writtenSteps (first ∷ others) = sentSteps first others

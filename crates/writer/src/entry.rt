@@ -14,12 +14,12 @@ use answer::Answer;
 use recording::Header;
 use recording::Step;
 
-// Refusal 10: more bytes than these.
+// Refusal 10: more than 799 bytes.
 const TOO_MANY_BYTES: u8 = 10;
 
 const MOST_BYTES: usize = 799;
 
-// Refusal 11: fewer places than the recording needs.
+// Refusal 11: a destination under 80n+36 bytes.
 const SHORT_DESTINATION: u8 = 11;
 
 // Writes the sample recording of the bytes. Promised, first: the answer and the destination, whole, are what `written` gives. Second,

@@ -1,3 +1,4 @@
+-- `store_byte` meets its contract. Assumes nothing.
 use borrow.Author.Needs.{needs}
 use Rattle.judge.proofs.Tests.{tests}
 use Rattle.judge.proofs.handed.store_byte.Statement.{statement}

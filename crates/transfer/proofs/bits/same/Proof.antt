@@ -1,3 +1,4 @@
+-- `same` meets its contract. Assumes nothing.
 use Rattle.transfer.specs.Phases.{same}
 use Rattle.transfer.proofs.bits.same.Statement.{statement}
 use Rattle.transfer.proofs.bits.same.Tie as tie

@@ -1,3 +1,4 @@
+-- `with_bit` meets its contract. Assumes nothing.
 use Rattle.transfer.specs.Phases.{withBit}
 use borrow.Author.Needs.{needs}
 use Rattle.transfer.proofs.bits.with_bit.Statement.{statement}

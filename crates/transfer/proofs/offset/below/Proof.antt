@@ -1,3 +1,4 @@
+-- `below` meets its contract. Assumes nothing.
 use Rattle.transfer.specs.Offsets.{below}
 use borrow.Author.Needs.{needs}
 use Rattle.transfer.proofs.offset.below.Statement.{statement}

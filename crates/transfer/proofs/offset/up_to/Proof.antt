@@ -1,3 +1,4 @@
+-- `up_to` meets its contract. Assumes nothing.
 use Rattle.transfer.specs.Offsets.{upTo}
 use borrow.Author.Needs.{needs}
 use Rattle.transfer.proofs.offset.up_to.Statement.{statement}

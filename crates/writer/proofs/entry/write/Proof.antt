@@ -15,7 +15,8 @@ refused-requires c κs = search needs
 returns : tie.Need-returns
 returns c =
     let d = c .before .before .before .before .args .destination .now in
-    refuses _ d _ 10 (λ w. omega (arith, w .few, c .before .if1 .taken)) (ap (λ r. leaves r d) (c .refused .ensures)) (too-many _ _ d (search needs))
+    refuses _ d _ 10 (λ w. omega (arith, w .few, c .before .if1 .taken)) (ap (λ r. leaves r d) (c .refused .ensures))
+    (too-many _ _ d (search needs))
 
 written-length-requires : tie.Need-written-length-requires
 written-length-requires c κs = search needs
@@ -26,7 +27,8 @@ refused-requires-2 c κs = search needs
 returns-2 : tie.Need-returns-2
 returns-2 c =
     let d = c .before .before .before .before .before .before .args .destination .now in
-    refuses _ d _ 11 (λ w. omega (arith, w .room, c .before .if2 .taken, c .before .before .written-length .ensures)) (ap (λ r. leaves r d) (c .refused2 .ensures)) (no-room _ _ d (search needs) (search needs))
+    refuses _ d _ 11 (λ w. omega (arith, w .room, c .before .if2 .taken, c .before .before .written-length .ensures))
+    (ap (λ r. leaves r d) (c .refused2 .ensures)) (no-room _ _ d (search needs) (search needs))
 
 standard-requires : tie.Need-standard-requires
 standard-requires c κs = search needs

@@ -1,3 +1,4 @@
+-- `carried` meets its contract. Assumes nothing.
 use Rattle.transfer.specs.Phases.{next}
 use Rattle.transfer.proofs.Tests.{tests}
 use Prim.Native.Nat.{_+_}

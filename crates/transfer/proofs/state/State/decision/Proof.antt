@@ -1,3 +1,4 @@
+-- `decision` meets its contract. Assumes nothing.
 use mathlib.Core.Path.{_∙_}
 use Rattle.transfer.proofs.Tests.{decision-told}
 use Rattle.transfer.proofs.Endings.{cut-short}

@@ -1,3 +1,4 @@
+-- `hand` meets its contract. Assumes nothing.
 use Rattle.transfer.specs.States.{follow}
 use borrow.Author.Needs.{needs}
 use Rattle.transfer.proofs.state.State.hand.Statement.{statement}

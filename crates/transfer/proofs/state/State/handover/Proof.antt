@@ -1,3 +1,4 @@
+-- `handover` meets its contract. Assumes nothing.
 use Rattle.transfer.specs.Phases.{handover}
 use borrow.Author.Needs.{needs}
 use Rattle.transfer.proofs.state.State.handover.Statement.{statement}

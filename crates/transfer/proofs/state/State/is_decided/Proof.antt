@@ -1,3 +1,4 @@
+-- `is_decided` meets its contract. Assumes nothing.
 use Rattle.transfer.proofs.Endings.{undecided}
 use borrow.Author.Needs.{needs}
 use Rattle.transfer.proofs.state.State.is_decided.Statement.{statement}

@@ -1,3 +1,4 @@
+-- `next` meets its contract. Assumes nothing.
 use Rattle.transfer.specs.States.{nextState}
 use mathlib.Core.Path.{sym, _∙_}
 use borrow.Author.Needs.{needs}

@@ -1,3 +1,4 @@
+-- `rows` meets its contract. Assumes nothing.
 use Rattle.transfer.specs.Phases.{next}
 use Rattle.transfer.proofs.Tests.{told}
 use mathlib.Core.Path.{_∙_}

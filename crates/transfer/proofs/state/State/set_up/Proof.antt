@@ -1,3 +1,4 @@
+-- `set_up` meets its contract. Assumes nothing.
 use Rattle.transfer.specs.Phases.{next}
 use Rattle.transfer.proofs.Tests.{tests}
 use borrow.Author.Needs.{needs}

@@ -1,3 +1,4 @@
+-- `stop` meets its contract. Assumes nothing.
 use borrow.Author.Needs.{needs}
 use Rattle.transfer.specs.States.{follow}
 use Rattle.transfer.proofs.state.State.stop.Statement.{statement}
