@@ -17,7 +17,7 @@ use Rattle.transfer.specs.declared.state.State.{State}
 use Rattle.judge.specs.Judged.{twoTicks}
 use Rattle.judge.specs.Reading.{withByte, withTicks}
 
--- Stores from the first place on put these values before what stood there.
+-- Stores from the first place on put these values in place of what stood there, and keep the rest.
 pub stored-first : (v b : List ℕ) → length v ≤ length b → sets b 0 v ≡ v over b
 stored-first v b h =
     let z : 0 + length v ≡ length v = omega arith in

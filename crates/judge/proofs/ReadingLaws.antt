@@ -37,6 +37,7 @@ module _ (L : Limits) where
     pub byte-places : length bytes ≡ length bytes₀
     pub ledger-places : length ledger ≡ length ledger₀
 
+  -- One tick: a byte that it hands over is stored, and then the rest.
   stored : (s t : State) (bytes ledger : List ℕ) (x : Lines) (w : List Lines) → t ≡ nextState L s x
       → comesTo s bytes ledger (x ∷ w) ≡ comesTo t (withByte bytes s t) (withTicks ledger s t) w
   unfolding comesTo stateAfter handedOver

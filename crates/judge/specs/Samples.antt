@@ -165,7 +165,7 @@ headerOnly version steps offset total size =
 
 abbrev pub refusedSamples : List RefusedSample
 refusedSamples =
-    -- 1 to 5, each beside what a later test would refuse.
+    -- 1 to 5; where a file has several faults, the earliest test decides. A true length may be too long or too short.
     refusedForm [] 1 0
     ∷ refusedForm (replicate 15 0) 1 0
     ∷ refusedForm (headerOnly 2 16001 17 1 0) 2 0

@@ -1,4 +1,4 @@
--- What a loop over the ticks keeps.
+-- What a loop over the ticks keeps, and where the tick of a decision lies.
 use Prim.Native.Nat.{_+_, _<_, _≤_}
 use mathlib.Core.Path.{_≡_}
 use mathlib.Core.Bool.{true}
