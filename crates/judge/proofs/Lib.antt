@@ -5,6 +5,7 @@ pub mod JudgedLaws
 pub mod Demand3
 pub mod Numbers
 pub mod Mission
+pub mod LongFiles
 pub mod Samples
 pub mod TickLists
 pub mod HandedLists

@@ -3,4 +3,5 @@ pub mod Judged
 pub mod Reading
 pub mod Demand3
 pub mod Mission
+pub mod LongFiles
 pub mod Samples

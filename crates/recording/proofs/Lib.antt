@@ -6,3 +6,4 @@ pub mod FormLaws
 pub mod PassedLaws
 pub mod GoodFormLaws
 pub mod FileOfLaws
+pub mod LongFiles

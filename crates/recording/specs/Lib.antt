@@ -6,3 +6,4 @@ pub mod Ticks
 pub mod Form
 pub mod GoodForm
 pub mod FileOf
+pub mod LongFiles

@@ -1,0 +1,2 @@
+-- What the programs' text keeps to.
+pub mod Printable

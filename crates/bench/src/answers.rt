@@ -1,0 +1,28 @@
+// An answer as a line of text.
+use crate::names::print_name;
+use answer::Answer;
+
+// Prints `NUMBER TICK STEP COUNT NAME FILE`, and answers whether all of it was written.
+pub fn print_answer(descriptor: i32, answer: Answer, file: &[u8]) -> bool {
+    print_number(descriptor, answer.number as u32)
+        && print_number(descriptor, answer.tick)
+        && print_number(descriptor, answer.step)
+        && print_number(descriptor, answer.count)
+        && print_name(descriptor, answer.number)
+        && io::write_all(descriptor, b" ")
+        && io::write_all(descriptor, file)
+        && io::write_all(descriptor, b"\n")
+}
+
+fn print_number(descriptor: i32, number: u32) -> bool {
+    io::print_decimal(descriptor, number as u64) && io::write_all(descriptor, b" ")
+}
+
+// Prints `- - - - FAILURE FILE`, the line of a file that has no answer, and answers whether all of it was written.
+pub fn print_failure(descriptor: i32, failure: &[u8], file: &[u8]) -> bool {
+    io::write_all(descriptor, b"- - - - ")
+        && io::write_all(descriptor, failure)
+        && io::write_all(descriptor, b" ")
+        && io::write_all(descriptor, file)
+        && io::write_all(descriptor, b"\n")
+}
