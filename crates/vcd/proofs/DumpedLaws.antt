@@ -1,0 +1,55 @@
+-- What the entry gives, case by case. Assumes nothing.
+use Prim.Native.Nat.{ℕ, _<_}
+use mathlib.Core.List.{List}
+use mathlib.Core.Path.{_≡_, sym, ap, ap₂, _∙_}
+use native.Mathlib.Omega.{arith}
+use lib.ListN.{length, drop, length-take, length-drop}
+use Rattle.answer.specs.Answers.{refused, accepted}
+use Rattle.answer.specs.declared.Answer.{Answer}
+use Rattle.recording.specs.Form.{formOf}
+use Rattle.recording.specs.Refusals.{refusalNumber}
+use Rattle.recording.specs.Ticks.{stepsOf}
+use Rattle.recording.specs.declared.form.Form.the-variants.{Good, Refused}
+use Rattle.recording.specs.declared.refusal.Refusal.{Refusal}
+use Rattle.recording.proofs.GoodFormLaws.{good-form}
+use Rattle.recording.proofs.StepLaws.{steps-count}
+use Rattle.vcd.specs.Dump.{dump}
+use Rattle.vcd.specs.Dumped.{leaves, piece, leavesPiece, dumpedInForm, dumped}
+use Rattle.vcd.specs.Put.{held, windowAt, Puts}
+use Rattle.vcd.specs.declared.window.Window.{Window}
+use Rattle.vcd.proofs.LengthLaws.{dump-length}
+use Rattle.vcd.proofs.WindowLaws.{through}
+
+module _ (file : List ℕ) (offset : ℕ) (d : List ℕ) where
+  pub is-refused : (refusal : Refusal) (step : ℕ) → formOf file ≡ Refused refusal step
+      → dumped file offset d ≡ leaves (refused (refusalNumber refusal) step) d
+  unfolding dumped dumpedInForm
+  is-refused refusal step e = ap (λ form. dumpedInForm file form offset d) e
+
+  module _ (n : ℕ) (good : formOf file ≡ Good n) where
+    pub is-piece : dumped file offset d ≡ leavesPiece (piece (dump (stepsOf file)) offset (length d)) d
+    unfolding dumped dumpedInForm
+    is-piece = ap (λ form. dumpedInForm file form offset d) good
+
+    -- The dump was put down from a window at the offset.
+    module _ {w w₁ : Window} {d₁ : List ℕ} (new : w ≡ windowAt offset) (puts : Puts (dump (stepsOf file)) (held w d) (held w₁ d₁)) where
+      -- The count fits 32 bits.
+      pub count-fits : w₁ .count < 4294967296
+      unfolding stepsOf
+      count-fits =
+          let text = dump (stepsOf file) in
+          let form = good-form file n .0 good in
+          let steps : length (stepsOf file) ≡ n = rw (← form .counted) (steps-count file n 0) in
+          omega (
+            arith,
+            form .few,
+            dump-length (stepsOf file),
+            through text offset new puts .counted,
+            length-take (length d) (drop offset text),
+            length-drop offset text,
+          )
+
+      pub piece-put : (r : Answer) → r ≡ accepted (w₁ .count) → leaves r d₁ ≡ dumped file offset d
+      piece-put r e =
+          let t = through (dump (stepsOf file)) offset new puts in
+          ap₂ leaves (e ∙ ap accepted (t .counted)) (t .there) ∙ sym is-piece

@@ -1,0 +1,31 @@
+-- `put_step` meets its contract: each return is a row of the definition. Assumes nothing.
+use borrow.Author.Tests.{eq-eqb, ne-eqb}
+use Rattle.vcd.specs.Dump.{stepText}
+use Rattle.vcd.proofs.PutLaws.{nothing-put, and-then}
+use borrow.Author.Needs.{needs}
+use Rattle.vcd.proofs.changes.put_step.Statement.{statement}
+use Rattle.vcd.proofs.changes.put_step.Tie as tie
+
+returns : tie.Need-returns
+unfolding stepText
+returns c = rw (eq-eqb _ _ (c .if1 .taken)) nothing-put
+
+put-time-requires : tie.Need-put-time-requires
+put-time-requires c κs = search needs
+
+put-changes-requires : tie.Need-put-changes-requires
+put-changes-requires c κs = search needs
+
+same-length : tie.Need-same-length
+same-length c = search needs
+
+returns-2 : tie.Need-returns-2
+unfolding stepText
+returns-2 c =
+    let changes = c .before .before in
+    let time = changes .before .before .before .before in
+    rw (ne-eqb _ _ (time .before .before .if1 .left)) (and-then (time .put-time .ensures) (changes .put-changes .ensures))
+
+pub put-step-spec : {M : Type 1} → statement M
+put-step-spec =
+    tie.close (tie.spec returns put-time-requires put-changes-requires same-length returns-2)

@@ -1,0 +1,46 @@
+-- `put_steps` meets its contract: the first step's text, and then the others'. Assumes nothing.
+use Rattle.vcd.proofs.PutLaws.{nothing-put, and-then}
+use Rattle.vcd.proofs.StepLaws.{no-steps, first-step}
+use borrow.Author.Needs.{needs}
+use Rattle.vcd.proofs.changes.put_steps.Statement.{statement}
+use Rattle.vcd.proofs.changes.put_steps.Tie as tie
+
+returns : tie.Need-returns
+returns c = rw (no-steps _ _ (c .if1 .taken)) nothing-put
+
+read-requires : tie.Need-read-requires
+read-requires c κs = search needs
+
+put-time-requires : tie.Need-put-time-requires
+put-time-requires c κs = search needs
+
+put-values-requires : tie.Need-put-values-requires
+put-values-requires c κs = search needs
+
+put-later-steps-requires : tie.Need-put-later-steps-requires
+put-later-steps-requires c κs = search needs
+
+same-length : tie.Need-same-length
+same-length c = search needs
+
+returns-2 : tie.Need-returns-2
+returns-2 c =
+    let later = c .before .before in
+    let values = later .before .before .before .before in
+    let time = values .before .before .before .before in
+    let read = time .before .before in
+    let a = read .before .before .before .before .args in
+    rw (first-step (a .file .now) (a .steps) (read .read .result) (read .read .ensures) (search needs))
+    (and-then (time .put-time .ensures) (and-then (values .put-values .ensures) (later .put-later-steps .ensures)))
+
+pub put-steps-spec : {M : Type 1} → statement M
+put-steps-spec =
+    tie.close
+    (tie.spec
+    returns
+    read-requires
+    put-time-requires
+    put-values-requires
+    put-later-steps-requires
+    same-length
+    returns-2)

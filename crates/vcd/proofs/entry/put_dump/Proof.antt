@@ -1,0 +1,42 @@
+-- `put_dump` meets its contract: its three parts stand one after another. Assumes nothing.
+use Rattle.vcd.proofs.PutLaws.{and-then}
+use Rattle.vcd.proofs.StepLaws.{whole-dump}
+use borrow.Author.Needs.{needs}
+use Rattle.vcd.proofs.entry.put_dump.Statement.{statement}
+use Rattle.vcd.proofs.entry.put_dump.Tie as tie
+
+read-requires : tie.Need-read-requires
+read-requires c κs = search needs
+
+put-heading-requires : tie.Need-put-heading-requires
+put-heading-requires c κs = search needs
+
+put-steps-requires : tie.Need-put-steps-requires
+put-steps-requires c κs = search needs
+
+put-time-requires : tie.Need-put-time-requires
+put-time-requires c κs = search needs
+
+same-length : tie.Need-same-length
+same-length c = search needs
+
+returns : tie.Need-returns
+returns c =
+    let end = c .before .before in
+    let changes = end .before .before .before .before in
+    let heading = changes .before .before .before .before in
+    let read = heading .before .before in
+    let good = read .before .before .before .pre in
+    rw (whole-dump _ _ (read .read .result) (read .read .ensures) good)
+    (and-then (heading .put-heading .ensures) (and-then (changes .put-steps .ensures) (end .put-time .ensures)))
+
+pub put-dump-spec : {M : Type 1} → statement M
+put-dump-spec =
+    tie.close
+    (tie.spec
+    read-requires
+    put-heading-requires
+    put-steps-requires
+    put-time-requires
+    same-length
+    returns)

@@ -1,0 +1,40 @@
+-- `put_changes` meets its contract: the four wires' texts stand one after another. Assumes nothing.
+use Rattle.vcd.proofs.PutLaws.{and-then}
+use borrow.Author.Needs.{needs}
+use Rattle.vcd.proofs.wires.put_changes.Statement.{statement}
+use Rattle.vcd.proofs.wires.put_changes.Tie as tie
+
+put-change-requires : tie.Need-put-change-requires
+put-change-requires c κs = search needs
+
+put-change-requires-2 : tie.Need-put-change-requires-2
+put-change-requires-2 c κs = search needs
+
+put-change-requires-3 : tie.Need-put-change-requires-3
+put-change-requires-3 c κs = search needs
+
+put-change-requires-4 : tie.Need-put-change-requires-4
+put-change-requires-4 c κs = search needs
+
+same-length : tie.Need-same-length
+same-length c = search needs
+
+returns : tie.Need-returns
+returns c =
+    let srq = c .before .before in
+    let line = srq .before .before .before .before in
+    let clk = line .before .before .before .before in
+    let atn = clk .before .before .before .before in
+    let two = and-then (line .put-change3 .ensures) (srq .put-change4 .ensures) in
+    and-then (atn .put-change .ensures) (and-then (clk .put-change2 .ensures) two)
+
+pub put-changes-spec : {M : Type 1} → statement M
+put-changes-spec =
+    tie.close
+    (tie.spec
+    put-change-requires
+    put-change-requires-2
+    put-change-requires-3
+    put-change-requires-4
+    same-length
+    returns)

@@ -1,0 +1,36 @@
+-- Text as bytes.
+use Prim.Native.Char.{code}
+use Prim.Native.Nat.{ℕ, zero, suc, _+_, _/_, _%_}
+use Prim.Native.String.{String, [] as end, _∷_ as _then_}
+use mathlib.Core.List.{List, [], _∷_, _++_}
+use lib.Dec.{ltb}
+use Rattle.recording.specs.Choice.{if_then_else_}
+
+-- The bytes of a text; its characters are those of ASCII, one byte each.
+abbrev pub ascii : String → List ℕ
+ascii end = []
+ascii (c then text) = code c ∷ ascii text
+
+abbrev pub newline : ℕ
+newline = code "\n"
+
+-- Lines of text; each ends with one newline.
+abbrev pub inLines : List String → List ℕ
+inLines [] = []
+inLines (line ∷ lines) = ascii line ++ (newline ∷ inLines lines)
+
+-- The digit of a number below ten.
+abbrev pub digit : ℕ → ℕ
+digit n = code "0" + n
+
+-- A number in decimal, with no leading zeros, if `most` digits are enough: the last digit is the remainder by ten, and those before
+-- it, where there are any, are the quotient's.
+unfoldable pub decimalIn : (most n : ℕ) → List ℕ
+decimalIn zero n = []
+decimalIn (suc most) n =
+    if ltb n 10 then digit n ∷ []
+    else decimalIn most (n / 10) ++ (digit (n % 10) ∷ [])
+
+-- Ten digits are enough for every number of 32 bits.
+abbrev pub decimal : ℕ → List ℕ
+decimal n = decimalIn 10 n
