@@ -2,6 +2,7 @@
 mod extremes;
 mod handovers;
 mod limits;
+mod meetings;
 mod noise;
 mod pairs;
 mod rooms;
@@ -29,6 +30,7 @@ fn cases(class: Class) -> u32 {
         Class::Values => values::CASES,
         Class::Strings => strings::CASES,
         Class::Limits => limits::CASES,
+        Class::Meetings => meetings::CASES,
         Class::Handovers => handovers::CASES,
         Class::Pairs => pairs::CASES,
         Class::Rooms => rooms::CASES,
@@ -43,6 +45,7 @@ fn compare_case(class: Class, number: u32, file: &mut [u8], spare: &mut [u8], sc
         Class::Values => values::compare_value(number, file, spare, scores),
         Class::Strings => strings::compare_string(number, file, spare, scores),
         Class::Limits => limits::compare_limit(number, file, spare, scores),
+        Class::Meetings => meetings::compare_meeting(number, file, scores),
         Class::Handovers => handovers::compare_handover(number, file, spare, scores),
         Class::Pairs => pairs::compare_pair(number, file, spare, scores),
         Class::Rooms => rooms::compare_rooms(number, file, scores),

@@ -26,5 +26,6 @@ fn main() {
     compare_class(Class::Rooms, &mut file, &mut spare, &mut scores);
     compare_class(Class::Noise, &mut file, &mut spare, &mut scores);
     compare_class(Class::Extremes, &mut file, &mut spare, &mut scores);
+    compare_class(Class::Meetings, &mut file, &mut spare, &mut scores);
     report::print_report(&scores);
 }

@@ -1,4 +1,5 @@
 // The recording layout: what the bytes of a file say.
+use crate::limits;
 
 pub struct Header {
     pub version: u32,
@@ -47,9 +48,9 @@ pub fn header_of(file: &[u8]) -> Header {
     }
 }
 
-// Step number `step`, counted from 0: it lies behind the 16 bytes of the header and 4 bytes for each step before it.
+// Step number `step`, counted from 0: it lies behind the header and the steps before it.
 pub fn step_at(file: &[u8], step: u32) -> Step {
-    let at = 16 + 4 * (step as usize);
+    let at = (limits::HEADER_BYTES as usize) + (limits::STEP_BYTES as usize) * (step as usize);
     Step {
         duration: pair(byte_at(file, at), byte_at(file, at + 1)),
         lines: byte_at(file, at + 2),

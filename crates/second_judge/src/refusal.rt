@@ -9,7 +9,7 @@ use crate::recording::step_at;
 
 // The refusal that is due, or number 0 where none is.
 pub fn refusal_due(file: &[u8], byte_places: usize, ledger_places: usize) -> Finding {
-    if file.len() < 16 {
+    if file.len() < limits::HEADER_BYTES as usize {
         return refused(numbers::FEWER_THAN_A_HEADER, 0);
     }
     let header = header_of(file);

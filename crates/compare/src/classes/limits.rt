@@ -18,9 +18,9 @@ use crate::made::three::put_three;
 pub(crate) const CASES: u32 = BASES * STEPS * DURATIONS;
 
 // Base recordings, and the most steps of one.
-const BASES: u32 = 7;
+pub(crate) const BASES: u32 = 7;
 
-const STEPS: u32 = 68;
+pub(crate) const STEPS: u32 = 68;
 
 pub(crate) fn compare_limit(number: u32, file: &mut [u8], spare: &mut [u8], scores: &mut [u32]) {
     let case = Case::new(Class::Limits, number);
@@ -40,7 +40,7 @@ pub(crate) fn compare_limit(number: u32, file: &mut [u8], spare: &mut [u8], scor
 }
 
 // Three bytes with bit 8 zero, and one with each kind of handover; no byte; one.
-fn put_base(base: &mut [u8], kind: u32) -> usize {
+pub(crate) fn put_base(base: &mut [u8], kind: u32) -> usize {
     let draft = Draft::plain(Random::new());
     if kind == 0 {
         return put_three(base, draft, 0x41, EACH, Handover::usual()).finish(base);

@@ -3,6 +3,7 @@ use crate::compared::case::Case;
 use crate::compared::case::Class;
 use crate::compared::differences;
 use crate::compared::expected::expected_of;
+use crate::compared::expected::is_answered;
 use crate::compared::judged::Outcome;
 use crate::compared::judged::compare;
 use crate::compared::lent;
@@ -31,20 +32,42 @@ pub(crate) fn compare_sample(number: u32, file: &mut [u8], spare: &mut [u8], sco
 fn compare_variation(sample: u32, variation: u32, file: &[u8], case: Case, scores: &mut [u32]) {
     let outcome = compare(file, case, scores);
     print_sample(sample, variation, outcome);
-    let is_met = expected_of(sample, variation).is_met(outcome);
-    differences::require(is_met, b"not as document 01 says", file, case, scores);
-    let is_whole = is_whole(sample, variation, file);
-    differences::require(is_whole, b"not document 01's S1", file, case, scores);
+    require_figures(sample, variation, outcome, file, case, scores);
+    require_s1(file, case, scores);
 }
 
-// Whether S1 is the whole file that document 01 gives, and the writer puts the same down.
-fn is_whole(sample: u32, variation: u32, file: &[u8]) -> bool {
-    if sample != 0 {
-        return true;
+// Document 01's own figures, where it gives them.
+fn require_figures(
+    sample: u32,
+    variation: u32,
+    outcome: Outcome,
+    file: &[u8],
+    case: Case,
+    scores: &mut [u32],
+) {
+    if !is_answered(sample, variation) {
+        return;
     }
-    if variation != 0 {
-        return true;
+    let is_met = expected_of(sample, variation).is_met(outcome);
+    differences::require(is_met, b"not as document 01 says", file, case, scores);
+}
+
+// The first case is S1 as it is.
+fn require_s1(file: &[u8], case: Case, scores: &mut [u32]) {
+    if case.number != 0 {
+        return;
     }
+    differences::require(
+        is_printed(file),
+        b"not document 01's S1",
+        file,
+        case,
+        scores,
+    );
+}
+
+// Whether it is the whole file that document 01 prints, and the writer puts the same down.
+fn is_printed(file: &[u8]) -> bool {
     let mut written = [0u8; 116];
     writer::write(&[0x41], &mut written);
     if lent::first_other_byte(&samples::S1, &written) != 116 {

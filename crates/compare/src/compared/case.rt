@@ -4,6 +4,7 @@ pub(crate) enum Class {
     Values,
     Strings,
     Limits,
+    Meetings,
     Handovers,
     Pairs,
     Rooms,
@@ -23,6 +24,7 @@ impl Class {
             Class::Rooms => 6,
             Class::Noise => 7,
             Class::Extremes => 8,
+            Class::Meetings => 9,
         }
     }
 }

@@ -1,7 +1,7 @@
 // What document 01 says of its samples.
 use crate::compared::judged::Outcome;
 
-// Document 01 doesn't give this tick, or this number.
+// Document 01 doesn't give this tick.
 const NOT_GIVEN: u32 = 0xFFFF_FFFF;
 
 // A verdict, its tick, and the first byte's two ticks in the ledger.
@@ -12,19 +12,24 @@ pub(crate) struct Expected {
     take: u32,
 }
 
-// Variations of a sample: 0 as it is, 1 with SRQ set everywhere, which changes nothing, 2 with ATN in its last step, 3 with a further
-// step 1:2. Of the last two document 01 speaks for S1 alone.
+// Whether document 01 gives the answer. Variations of a sample: 0 as it is, 1 with SRQ set everywhere, which changes nothing, 2 with ATN
+// in its last step, 3 with a further step 1:2. Of the last two document 01 speaks for S1 alone.
+pub(crate) fn is_answered(sample: u32, variation: u32) -> bool {
+    if sample == 0 {
+        return true;
+    }
+    variation < 2
+}
+
+// What it gives, where it gives one.
 pub(crate) fn expected_of(sample: u32, variation: u32) -> Expected {
-    if variation < 2 {
-        return expected_unchanged(sample);
-    }
-    if sample != 0 {
-        return answered(NOT_GIVEN, NOT_GIVEN);
-    }
     if variation == 2 {
         return answered(23, 1910);
     }
-    answered(37, 2010)
+    if variation == 3 {
+        return answered(37, 2010);
+    }
+    expected_unchanged(sample)
 }
 
 // Of each sample, in their order.

@@ -16,6 +16,10 @@ pub(crate) fn change(file: &mut [u8], length: usize, random: Random) -> usize {
     if kind == 1 {
         return lengthen(file, length, drawn);
     }
+    if kind == 31 {
+        flip_bit(file, drawn.below((length % 65_536) as u32), drawn.next());
+        return length;
+    }
     if kind < 8 {
         change_header(file, kind, drawn);
         return length;
@@ -23,6 +27,16 @@ pub(crate) fn change(file: &mut [u8], length: usize, random: Random) -> usize {
     let step = drawn.below(draft::step_count(draft::part(file, length)));
     change_step(file, step, kind, drawn.next());
     length
+}
+
+// Any bit of any byte.
+fn flip_bit(file: &mut [u8], place: u32, random: Random) {
+    let at = place as usize;
+    fields::put_byte(
+        file,
+        at,
+        fields::byte_at(file, at) ^ (1 << (random.below(8) % 8)),
+    );
 }
 
 // Some drawn bytes after the file's end.

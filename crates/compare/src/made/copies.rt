@@ -45,3 +45,26 @@ pub(crate) fn copy_with_duration(
         changed,
     )
 }
+
+// The same steps, but for one that lasts `duration` and has a tick with these lines after it.
+pub(crate) fn copy_with_tick(
+    source: &[u8],
+    steps: u32,
+    step: u32,
+    duration: u32,
+    lines: u8,
+    file: &mut [u8],
+    draft: Draft,
+) -> Draft {
+    let before = copy_steps(source, 0, step, 0, file, draft);
+    let changed = before.add(file, duration, lines_at(source, step));
+    let met = changed.add(file, 1, lines);
+    copy_steps(
+        source,
+        std::num::wrapping_add_u32(step, 1),
+        steps,
+        0,
+        file,
+        met,
+    )
+}

@@ -21,6 +21,7 @@ pub(crate) fn print_report(scores: &[u32]) {
     print_class(Class::Rooms, scores);
     print_class(Class::Noise, scores);
     print_class(Class::Extremes, scores);
+    print_class(Class::Meetings, scores);
     print_line(b"damaged", score(scores, scores::DAMAGED));
     let missing = print_numbers(scores);
     print_line(b"recordings", score(scores, scores::ALL));

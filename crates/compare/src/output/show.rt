@@ -20,7 +20,7 @@ pub(crate) fn show_answer(number: u32, tick: u32, step: u32, count: u32) {
 
 pub(crate) fn show_class(class: Class) {
     print_word(
-        b"samples;values;strings;limits;handovers;pairs;rooms;noise;extremes;",
+        b"samples;values;strings;limits;handovers;pairs;rooms;noise;extremes;meetings;",
         class.index(),
     );
 }
