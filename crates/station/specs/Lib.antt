@@ -1,0 +1,2 @@
+-- What crosses the border to programs in C and Rust.
+pub mod Border

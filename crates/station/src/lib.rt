@@ -1,0 +1,56 @@
+// The station's entries for programs in C and Rust. Each hands the lent memory on and the answer back, and does nothing else.
+ghost use mathlib.Core.Path.{_≡_};
+ghost use Rattle.answer.specs.Lent.{first};
+ghost use Rattle.transfer.specs.Limits.{standardLimits};
+ghost use Rattle.judge.specs.Demand3.{GoodWithRoom, FileDemand3};
+ghost use Rattle.judge.specs.Judged as Judged;
+ghost use Rattle.writer.specs.Card.{standardCard};
+ghost use Rattle.writer.specs.ReadBack.{ReadsBack, Writable};
+ghost use Rattle.writer.specs.Written as Written;
+ghost use Rattle.station.specs.Border.{answerOf};
+use answer::Answer;
+
+// An answer as it crosses the border: four numbers of 32 bits, in this order.
+#[repr(C)]
+pub struct StationAnswer {
+    pub number: u32,
+    pub tick: u32,
+    pub step: u32,
+    pub count: u32,
+}
+
+// The same four numbers.
+fn cross(answer: Answer) -> StationAnswer
+    ensures { λ r. ⌜ answerOf r ≡ answer ⌝ }
+{
+    StationAnswer {
+        number: answer.number as u32,
+        tick: answer.tick,
+        step: answer.step,
+        count: answer.count,
+    }
+}
+
+// Judges one data transfer. What `judge` promises, of the answer that crosses.
+#[no_mangle]
+pub extern "C" fn station_judge(file: &[u8], bytes: &mut [u8], ledger: &mut [u32]) -> StationAnswer
+    ensures { λ r. ⌜
+        (Judged.leaves (answerOf r) (now (bytes .exit)) (now (ledger .exit))
+        ≡ Judged.judged standardLimits (now (file .entry)) (now (bytes .entry)) (now (ledger .entry)))
+        × (GoodWithRoom (now (file .entry)) (now (bytes .entry)) (now (ledger .entry))
+        → FileDemand3 standardLimits (now (file .entry)) (Judged.leaves (answerOf r) (now (bytes .exit)) (now (ledger .exit)))) ⌝ }
+{
+    cross(judge::judge(file, bytes, ledger))
+}
+
+// Writes the sample recording of the bytes. What `write` promises, of the answer that crosses.
+#[no_mangle]
+pub extern "C" fn station_write(bytes: &[u8], destination: &mut [u8]) -> StationAnswer
+    ensures { λ r. ⌜
+        (Written.leaves (answerOf r) (now (destination .exit))
+        ≡ Written.written standardCard (now (bytes .entry)) (now (destination .entry)))
+        × (Writable (now (bytes .entry)) (now (destination .entry))
+        → ReadsBack standardLimits (first (r .count) (now (destination .exit))) (now (bytes .entry))) ⌝ }
+{
+    cross(writer::write(bytes, destination))
+}
