@@ -1,12 +1,13 @@
 -- The laws by which the two loops of a reading go, and what both keep. Assumes nothing.
-use Prim.Native.Nat.{ℕ, _*_, _<_, _≤_}
+use Prim.Native.Nat.{ℕ, _+_, _*_, _<_, _≤_}
 use mathlib.Core.List.{List, [], _∷_, _++_}
 use mathlib.Core.Bool.{true}
 use mathlib.Core.Path.{_≡_, refl, sym, ap, ap₂, subst, _∙_}
 use native.Mathlib.Omega.{arith}
-use lib.ListN.{length}
+use lib.ListN.{length, replicate}
 use lib.Seq.{sets}
 use Rattle.transfer.specs.Outcome.{stateAfter, handedIn, handedOver}
+use Rattle.transfer.specs.Idle.{idleTicks, later, Idle, Counted}
 use Rattle.transfer.specs.Pair.{values}
 use Rattle.transfer.specs.TickLaws.{OneTick}
 use Rattle.transfer.specs.States.{firstState, nextState, isDecided}
@@ -15,6 +16,7 @@ use Rattle.transfer.specs.declared.lines.Lines.{Lines}
 use Rattle.transfer.specs.declared.phase.Byte.{Byte}
 use Rattle.transfer.specs.declared.state.State.{State}
 use Rattle.transfer.proofs.TickLaws.{one-tick, counts, stands}
+use Rattle.transfer.proofs.IdleLaws.{idle-law}
 use Rattle.judge.specs.Judged.{byteRoom, ledgerRoom, twoTicks}
 use Rattle.judge.specs.Reading.{withByte, withTicks, Reached, reached, readInto}
 use Rattle.judge.proofs.LedgerLists.{length-values, length-twoTicks}
@@ -63,6 +65,36 @@ module _ (L : Limits) where
             (subst (λ v. stateAfter L s v .count < byteRoom) ew (k .few));
         byte-places = byte-keeps-length b b′ s t eb ∙ k .byte-places;
         ledger-places = ticks-keep-length g g′ s t eg ∙ k .ledger-places;
+      }
+
+  -- A tick moves the state's tick on by one at most.
+  pub tick-most : (s t : State) (x : Lines) → t ≡ nextState L s x → t .tick ≤ s .tick + 1
+  tick-most s t x et = subst (λ (u : State). u .tick ≤ s .tick + 1) (sym et) (one-tick L s x .tick-most)
+
+  -- What is counted after a tick, of the state that the code has.
+  pub counted : (s t : State) (x : Lines) (most ticks : ℕ) → t ≡ nextState L s x → ticks ≡ idleTicks L (t .phase) (t .tick) most
+      → Counted L t x most ticks
+  counted s t x most ticks et e =
+      subst (Counted L t x most) (sym e)
+      (subst (λ (u : State). Counted L u x most (idleTicks L (u .phase) (u .tick) most)) (sym et) (idle-law L s x most))
+
+  -- Idle ticks are passed over.
+  pub idle-passed : (whole : Reached) (b₀ g₀ : List ℕ) (n m ticks : ℕ) (x : Lines) (w w′ : List Lines) (s t : State) (b g : List ℕ)
+      → Keeps whole b₀ g₀ n w s b g → n + ticks ≤ m → w ≡ replicate ticks x ++ w′ → Idle L s x ticks → t ≡ later s ticks
+      → Keeps whole b₀ g₀ m w′ t b g
+  unfolding comesTo
+  idle-passed whole b₀ g₀ n m ticks x w w′ s t b g k h ew i et =
+      let passed : comesTo s b g (replicate ticks x ++ w′) ≡ comesTo (later s ticks) b g w′ =
+      ap₂ (λ (u : State) (handed : List Byte). reached u (sets b (s .count) (values handed)) (sets g (2 * s .count) (twoTicks handed)))
+      (i .state w′) (i .bytes w′) in
+      record {
+        comes = k .comes ∙ ap (comesTo s b g) ew ∙ passed ∙ ap (λ (u : State). comesTo u b g w′) (sym et);
+        tick = subst (λ (u : State). u .tick ≤ m) (sym et) (omega (arith, k .tick));
+        few = subst (λ (u : State). stateAfter L u w′ .count < byteRoom) (sym et)
+            (subst (λ (u : State). u .count < byteRoom) (i .state w′)
+            (subst (λ v. stateAfter L s v .count < byteRoom) ew (k .few)));
+        byte-places = k .byte-places;
+        ledger-places = k .ledger-places;
       }
 
   -- A step begins: from here on the reading comes to the same.

@@ -49,6 +49,16 @@ pub tick-left : (x : Lines) (j d : ℕ) (rest : List Lines) → j < d
     → replicate (d - j) x ++ rest ≡ x ∷ (replicate (d - (j + 1)) x ++ rest)
 tick-left x j d rest h = let z : d - j ≡ suc (d - (j + 1)) = omega arith in rw z
 
+several : (k m : ℕ) (x : Lines) (rest : List Lines) → replicate (k + m) x ++ rest ≡ replicate k x ++ (replicate m x ++ rest)
+several zero m x rest = let z : 0 + m ≡ m = omega arith in rw z
+several (suc k) m x rest = let z : suc k + m ≡ suc (k + m) = omega arith in rw z (ap (λ w. x ∷ w) (several k m x rest))
+
+pub ticks-left : (x : Lines) (j k d : ℕ) (rest : List Lines) → j + k ≤ d
+    → replicate (d - j) x ++ rest ≡ replicate k x ++ (replicate (d - (j + k)) x ++ rest)
+ticks-left x j k d rest h =
+    let z : d - j ≡ k + (d - (j + k)) = omega arith in
+    ap (λ n. replicate n x ++ rest) z ∙ several k (d - (j + k)) x rest
+
 pub no-tick-left : (x : Lines) (j d : ℕ) (rest : List Lines) → d ≤ j → replicate (d - j) x ++ rest ≡ rest
 no-tick-left x j d rest h = let z : d - j ≡ 0 = omega arith in rw z
 

@@ -35,6 +35,9 @@ pub(crate) fn read(
                 break 'steps;
             }
             passed += 1;
+            let idle = next.idle(limits, duration - passed);
+            state = next.later(idle);
+            passed += idle;
         }
         index += 1;
     }

@@ -4,6 +4,7 @@ pub mod Rows
 pub mod Run
 pub mod DecisionTicks
 pub mod TickLaws
+pub mod IdleLaws
 pub mod Room
 pub mod HandoverTicks
 pub mod ByteValue

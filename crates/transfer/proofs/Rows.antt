@@ -42,12 +42,18 @@ settled (ReadyToSend any ended) c d = not c && d
 settled (ReadyForData any since) c d = not c && not d
 settled (Acknowledgement any ready since) c d = not c && d
 settled (Acknowledged any ready since) c d = not c && not d
-settled (SetUp mark left value since last) c d = c
-settled (Valid mark left value since bit) c d = not c
+settled (SetUp mark left value since last) c d = c && same last d
+settled (Valid mark left value since bit) c d = not c && same bit d
 settled (Open mark value since let-go) c d = c && not d
 settled (Carried mark value since) c d = c && d
 settled (End finish) c d = not c && not d
 settled (Decided fault) c d = false
+
+-- DATA that stays is the same.
+pub stays-same : (d : Bool) → same d d ≡ true
+unfolding same
+stays-same true = refl
+stays-same false = refl
 
 -- A place further at most, none where the lines stay.
 abbrev pub further : Bool → ℕ
@@ -109,8 +115,13 @@ module _ {most late : ℕ} {c d : Bool} where
       → Climbs most late c d (if upTo n s now then x else y)
   if-upTo n s now x y p q = either (upTo n s now) x y p q
 
-  if-same : (a b : Bool) (x y : Move) → Climbs most late c d x → Climbs most late c d y → Climbs most late c d (if same a b then x else y)
-  if-same a b x y p q = either (same a b) x y p q
+  if-same : (a b : Bool) (x y : Move) → (same a b ≡ true → Climbs most late c d x) → Climbs most late c d y
+      → Climbs most late c d (if same a b then x else y)
+  if-same a b x y p q = by-test (same a b) refl
+    where
+      by-test : (t : Bool) → same a b ≡ t → Climbs most late c d (if t then x else y)
+      by-test true e = p e
+      by-test false e = q
 
 module _ (L : Limits) where
   pub climbs : (now : ℕ) (p : Phase) (c d : Bool) → Climbs (place p + further (settled p c d)) (latest p now) c d (next L now p c d)
@@ -130,21 +141,22 @@ module _ (L : Limits) where
   climbs now (ReadyToSend any false) false false = on _ (omega arith) (omega arith) refl
   climbs now (ReadyToSend any true) false false = on _ (omega arith) (omega arith) refl
   climbs now (ReadyToSend any ended) true d = stops
-  climbs now (ReadyForData any since) true d = if-below _ _ _ _ _ (on _ (omega arith) (omega arith) refl) stops
+  climbs now (ReadyForData any since) true d = if-below _ _ _ _ _ (on _ (omega arith) (omega arith) (stays-same d)) stops
   climbs now (ReadyForData any since) false true = if-below _ _ _ _ _ stops (on _ (omega arith) (omega arith) refl)
   climbs now (ReadyForData any since) false false = if-below _ _ _ _ _ (on _ (omega arith) (omega arith) refl) stops
   climbs now (Acknowledgement any ready since) true d = stops
   climbs now (Acknowledgement any ready since) false true = if-below _ _ _ _ _ (on _ (omega arith) (omega arith) refl) stops
   climbs now (Acknowledgement any ready since) false false = if-below _ _ _ _ _ stops (on _ (omega arith) (omega arith) refl)
   climbs now (Acknowledged any ready since) false true = stops
-  climbs now (Acknowledged any ready since) true d = if-upTo _ _ _ _ _ (on _ (omega arith) (omega arith) refl) stops
+  climbs now (Acknowledged any ready since) true d = if-upTo _ _ _ _ _ (on _ (omega arith) (omega arith) (stays-same d)) stops
   climbs now (Acknowledged any ready since) false false =
       if-below _ _ _ _ _ (on _ (omega arith) (omega arith) refl) (either any _ _ stops stops)
-  climbs now (SetUp mark left value since last) true d = if-below _ _ _ _ _ (on _ (omega arith) (omega arith) refl) stops
-  climbs now (SetUp mark left value since last) false d = if-same _ _ _ _ (on _ (omega arith) (omega arith) refl) stops
+  climbs now (SetUp mark left value since last) true d = if-below _ _ _ _ _ (on _ (omega arith) (omega arith) (stays-same d)) stops
+  climbs now (SetUp mark left value since last) false d =
+      if-same _ _ _ _ (λ e. on _ (omega arith) (omega arith) (stays-same d)) stops
   climbs now (Valid mark left value since bit) false d =
-      if-same _ _ _ _ (if-below _ _ _ _ _ (on _ (omega arith) (omega arith) refl) stops) stops
-  climbs now (Valid mark (suc left) value since bit) true d = if-below _ _ _ _ _ stops (on _ (omega arith) (omega arith) refl)
+      if-same _ _ _ _ (λ e. if-below _ _ _ _ _ (on _ (omega arith) (omega arith) e) stops) stops
+  climbs now (Valid mark (suc left) value since bit) true d = if-below _ _ _ _ _ stops (on _ (omega arith) (omega arith) (stays-same d))
   climbs now (Valid mark zero value since bit) true false = if-below _ _ _ _ _ stops (on _ (omega arith) (omega arith) refl)
   climbs now (Valid mark zero value since true) true true = if-below _ _ _ _ _ stops (on _ (omega arith) (omega arith) refl)
   climbs now (Valid mark zero value since false) true true = if-below _ _ _ _ _ stops stops

@@ -8,6 +8,7 @@ pub mod Verdicts
 pub mod States
 pub mod Outcome
 pub mod TickLaws
+pub mod Idle
 pub mod Spans
 pub mod Parties
 pub mod Rules

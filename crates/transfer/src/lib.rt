@@ -4,6 +4,7 @@ mod bits; // set-up and valid
 mod end; // phase E
 mod end_mark; // phases D, F and G
 mod handover;
+mod idle; // ticks that only add one to the tick
 mod limits;
 mod lines;
 mod offset;

@@ -9,8 +9,8 @@ use lib.ListN.{replicate}
 use Rattle.recording.specs.Layout.{longestDuration}
 use Rattle.judge.specs.Reading.{ticksFrom}
 use Rattle.judge.proofs.HandedLists.{byte-keeps-length, ticks-keep-length}
-use Rattle.judge.proofs.TickLists.{step-left, all-left, none-left, tick-left, no-tick-left, few-handed}
-use Rattle.judge.proofs.ReadingLaws.{comesTo, Keeps, tick-read, step-begins, step-ends, reading-ends, verdict-stands}
+use Rattle.judge.proofs.TickLists.{step-left, all-left, none-left, tick-left, ticks-left, no-tick-left, few-handed}
+use Rattle.judge.proofs.ReadingLaws.{comesTo, Keeps, tick-read, tick-most, counted, idle-passed, step-begins, step-ends, reading-ends, verdict-stands}
 use Rattle.judge.proofs.ReadingLaws.{has-place, reading-begins, reading-is}
 use Rattle.judge.proofs.reading.read.Statement.{statement}
 use Rattle.judge.proofs.reading.read.Tie as tie
@@ -99,24 +99,64 @@ is-decided-requires c κs = search needs
 add-passed : tie.Need-add-passed Inv-loop μ-loop Inv-steps μ-steps
 add-passed c = search needs
 
+sub-idle : tie.Need-sub-idle Inv-loop μ-loop Inv-steps μ-steps
+sub-idle c = search needs
+
+idle-requires : tie.Need-idle-requires Inv-loop μ-loop Inv-steps μ-steps
+idle-requires c κs = search needs
+
+later-requires : tie.Need-later-requires Inv-loop μ-loop Inv-steps μ-steps
+later-requires c κs =
+    let next = c .before .before .before .before .before .before .before .before .before .before .before in
+    let inner = next .before .before in
+    let call = inner .before .before .before .before .before .before .before .before .before in
+    let L = call .args .limits in
+    let k = inner .loop .inv in
+    let one = tick-most L _ (next .next .result) _ (next .next .ensures) in
+    let few = counted L _ (next .next .result) _ _ _ (next .next .ensures) (c .idle .ensures) .few in
+    omega (arith, one, few, k .3 .tick, k .1, k .2, call .pre .few)
+
+add-passed-2 : tie.Need-add-passed-2 Inv-loop μ-loop Inv-steps μ-steps
+add-passed-2 c =
+    let next = c .before .before .before .before .before .before .before .before .before .before .before .before in
+    let inner = next .before .before in
+    let L = inner .before .before .before .before .before .before .before .before .before .args .limits in
+    let few = counted L _ (next .next .result) _ _ _ (next .next .ensures) (c .before .idle .ensures) .few in
+    omega (arith, few, next .before .loop-test .taken, inner .loop .inv .1)
+
 loop-less : tie.Need-loop-less Inv-loop μ-loop Inv-steps μ-steps
-loop-less c = search needs
+loop-less c =
+    let next = c .before .before .before .before .before .before .before .before .before .before .before .before in
+    let inner = next .before .before in
+    let L = inner .before .before .before .before .before .before .before .before .before .args .limits in
+    let few = counted L _ (next .next .result) _ _ _ (next .next .ensures) (c .before .idle .ensures) .few in
+    omega (arith, few, next .before .loop-test .taken)
 
 loop-again : tie.Need-loop-again Inv-loop μ-loop Inv-steps μ-steps
 loop-again c =
-    let ticks = c .before .before .before .before in
+    let idle = c .before in
+    let ticks = idle .before .before .before .before .before in
     let byte = ticks .before .before .before .before in
     let next = byte .before .before in
     let inner = next .before .before in
     let outer = inner .before .before .before .before in
     let call = outer .before .before .before .before .before in
-    let k = inner .loop .inv in (
-      search needs,
+    let L = call .args .limits in
+    let k = inner .loop .inv in
+    let behind = longestDuration * outer .steps .index + (inner .loop .passed + 1) in
+    let on = tick-read L _ _ _ _ behind _ _ _ _ (next .next .result) _ _ _ _ (k .3) (omega arith)
+    (tick-left _ _ _ _ (next .before .loop-test .taken)) (next .next .ensures) (byte .store-byte .ensures) (ticks .store-ticks .ensures) in
+    let n = counted L _ (next .next .result) _ _ _ (next .next .ensures) (idle .idle .ensures) in
+    let undecided = sym (idle .before .before .is-decided .ensures) ∙ idle .before .if1 .left in
+    let passed : behind + idle .idle .result ≤ longestDuration * outer .steps .index + (inner .loop .passed + 1 + idle .idle .result) =
+    omega arith in
+    let inside : inner .loop .passed + 1 + idle .idle .result ≤ inner .before .before .read .result .duration =
+    omega (arith, n .few, next .before .loop-test .taken) in (
+      inside,
       k .1,
       k .2,
-      tick-read (call .args .limits) _ _ _ _ _ _ _ _ _ (next .next .result) _ _ _ _ (k .3) (omega arith)
-          (tick-left _ _ _ _ (next .before .loop-test .taken)) (next .next .ensures) (byte .store-byte .ensures)
-          (ticks .store-ticks .ensures),
+      idle-passed L _ _ _ behind _ (idle .idle .result) _ _ _ (next .next .result) (c .later .result) _ _ on passed
+          (ticks-left _ _ _ _ _ inside) (n .idle undecided) (c .later .ensures),
     )
 
 add-index : tie.Need-add-index Inv-loop μ-loop Inv-steps μ-steps
@@ -211,6 +251,10 @@ read-spec =
     store-ticks-requires
     is-decided-requires
     add-passed
+    sub-idle
+    idle-requires
+    later-requires
+    add-passed-2
     loop-less
     loop-again
     add-index
