@@ -1,0 +1,124 @@
+/* The station's judge and writer, for programs in C and C++. `rt staticlib station` makes target/staticlib/libstation.a, which needs no
+ * other library. It is for Linux on x86-64. What each number means, and the exact rules, are in README.md and document 01.
+ *
+ * ONLY THE NUMBER 20 IS A PASS. 0 is not: it is the writer's answer where it wrote. No other number is, small or large, and no count of
+ * bytes makes one: a stream that broke off after 100 bytes has the count 100. Compare with STATION_COMPLETE and with nothing else.
+ */
+#ifndef STATION_H
+#define STATION_H
+
+#include <stddef.h>
+#include <stdint.h>
+
+#ifdef __cplusplus
+extern "C" {
+#endif
+
+/* An answer's numbers. */
+enum station_number {
+    /* the one pass: the stream was finished, and some sender and receiver that keep the rules could have made the recording */
+    STATION_COMPLETE = 20,
+
+    /* verdicts of the judge that are no pass */
+    STATION_EMPTY_STREAM = 21,              /* the sender did not go on within 512 ticks, and no byte was handed over: a time-out */
+    STATION_CUT = 22,                       /* the recording ended before the stream was finished */
+    STATION_ATTENTION = 23,                 /* ATN was pulled */
+    STATION_NO_RECEIVER = 24,               /* nobody took DATA in the first 256 ticks */
+    STATION_BAD_START = 25,                 /* CLK was not pulled at the first tick */
+    STATION_OUT_OF_TURN = 26,               /* a line moved when it was not its turn */
+    STATION_END_MARK_NOT_ACKNOWLEDGED = 27, /* the receiver did not answer the end mark in time */
+    STATION_ACKNOWLEDGEMENT_SHORT = 28,     /* it held its answer for fewer than 60 ticks */
+    STATION_ACKNOWLEDGEMENT_LONG = 29,      /* it held its answer for more than 150 ticks */
+    STATION_LATE_CLOCK = 30,                /* after that answer the sender pulled CLK later than 60 ticks */
+    STATION_SENDER_TIME_OUT = 31,           /* the sender did not go on within 512 ticks, after bytes were handed over */
+    STATION_VALID_TIME_SHORT = 32,          /* a bit was valid for fewer than 20 ticks */
+    STATION_DATA_MOVED = 33,                /* DATA moved with a bit's CLK release, or while the bit was valid */
+    STATION_CLOCK_STALL = 34,               /* a bit's set-up or valid time was longer than 200 ticks */
+    STATION_RECEIVER_TIME_OUT = 35,         /* a byte was not taken within 1,000 ticks */
+    STATION_HURRIED = 36,                   /* the sender went on fewer than 100 ticks after the take */
+    STATION_MOVED_AFTER_THE_END = 37,       /* a line moved after the stream was finished */
+
+    /* refusals of the judge: they are about the file or the memory lent, not about a drive */
+    STATION_SHORT_FILE = 1,     /* fewer than 16 bytes */
+    STATION_WRONG_VERSION = 2,  /* the version is not 1 */
+    STATION_TOO_MANY_STEPS = 3, /* more than 16,000 steps */
+    STATION_WRONG_OFFSET = 4,   /* the steps do not begin at 16 */
+    STATION_WRONG_LENGTH = 5,   /* the length, by the header or truly, is not that of its steps */
+    STATION_ZERO_DURATION = 6,  /* a step of no ticks */
+    STATION_STRAY_BITS = 7,     /* a step with bits that mean nothing */
+    STATION_WRONG_TOTAL = 8,    /* the total is not the sum of the steps */
+    STATION_SHORT_BUFFERS = 9,  /* fewer than STATION_BYTE_ROOM bytes or STATION_LEDGER_ROOM ledger places were lent */
+
+    /* the writer's answers; none of them says anything about a transfer */
+    STATION_WRITTEN = 0,            /* the recording was written */
+    STATION_TOO_MANY_BYTES = 10,    /* refused: more than STATION_MOST_BYTES bytes */
+    STATION_SHORT_DESTINATION = 11  /* refused: a destination shorter than STATION_WRITTEN_LENGTH of the bytes given */
+};
+
+/* The room that the judge must be lent: places of the byte buffer and of the ledger. */
+#define STATION_BYTE_ROOM 1000
+#define STATION_LEDGER_ROOM 2000
+
+/* The most steps of a recording, and the length in bytes of a recording with so many. */
+#define STATION_MOST_STEPS 16000
+#define STATION_LONGEST_RECORDING 64016
+
+/* The most bytes that the writer takes, and the length in bytes of the recording that it writes of n bytes. */
+#define STATION_MOST_BYTES 799
+#define STATION_WRITTEN_LENGTH(n) (80 * (size_t)(n) + 36)
+
+/* An answer: one of the numbers above; the deciding tick, one tick being 1 us and the first one 0; the step of the recording that holds
+ * that tick, the first one 0; and a count, of which each function says what it counts. */
+struct station_answer {
+    uint32_t number;
+    uint32_t tick;
+    uint32_t step;
+    uint32_t count;
+};
+
+/* Both functions:
+ * - may be called by many threads at once: they keep nothing between calls, allocate nothing, call nothing and print nothing. The memory
+ *   lent to one call must not be lent to another, nor changed by anybody, while the call lasts; memory that is only read may be shared.
+ * - must be lent as many places as the lengths say. A pointer whose length is 0 is not followed and may be null.
+ * - take any bytes at all, and always return. */
+
+/* Judges one data transfer.
+ *
+ * Lent by the caller:
+ * - recording: recording_length bytes, any. They are only read. A file that is longer than STATION_LONGEST_RECORDING is always refused.
+ *   Not all of it need be handed over: STATION_LONGEST_RECORDING + 1 bytes or more of its beginning are answered as the whole file is.
+ *   Fewer may not be: they could pass for a recording that the file is not.
+ * - bytes: at least STATION_BYTE_ROOM places, for the bytes that were handed over.
+ * - ledger: at least STATION_LEDGER_ROOM places, aligned as uint32_t is, for two ticks of each of these bytes.
+ * What they hold at the call does not matter. None of the three may overlap another.
+ *
+ * Comes back:
+ * - A verdict, 20 to 37, of which ONLY 20 IS A PASS: the deciding tick, the step that holds it, and as count how many bytes were handed
+ *   over, always fewer than STATION_BYTE_ROOM. For 20 the tick is the one at which the stream was finished; for 22 tick and step are the
+ *   recording's total ticks and its number of steps. bytes begins with the count bytes; ledger begins with two ticks for each: when the
+ *   sender let go of DATA and when the receiver took it. All further places keep what they held.
+ * - A refusal, 1 to 9: tick and count are 0; step is the offending one for 6 and 7 and otherwise 0. No place of bytes or ledger changes.
+ */
+struct station_answer station_judge(const uint8_t *recording, size_t recording_length, uint8_t *bytes, size_t bytes_length,
+                                    uint32_t *ledger, size_t ledger_length);
+
+/* Writes the sample recording of a string of bytes.
+ *
+ * Lent by the caller:
+ * - bytes: bytes_length of them, 0 to STATION_MOST_BYTES. They are only read.
+ * - destination: at least STATION_WRITTEN_LENGTH(bytes_length) bytes.
+ * What the destination holds at the call does not matter. The two may not overlap.
+ *
+ * Comes back:
+ * - STATION_WRITTEN, 0: tick and step are 0, and the count is the recording's length, STATION_WRITTEN_LENGTH(bytes_length). The
+ *   destination begins with the recording; all further places keep what they held. The judge answers 20 with these very bytes of it, or
+ *   21, which is no pass, where there were none.
+ * - A refusal, 10 or 11: tick, step and count are 0. No place of the destination changes.
+ */
+struct station_answer station_write(const uint8_t *bytes, size_t bytes_length, uint8_t *destination, size_t destination_length);
+
+#ifdef __cplusplus
+}
+#endif
+
+#endif
