@@ -1,0 +1,64 @@
+//! The three judges, called alike, and the memory that they are lent.
+
+use station::{BYTE_ROOM, LEDGER_ROOM};
+
+/// Number, tick, step and count.
+pub type Four = [u32; 4];
+
+pub struct Judge {
+    pub name: &'static str,
+    pub judge: fn(&[u8], &mut [u8], &mut [u32]) -> Four,
+}
+
+/// The first is the one that the others are compared with.
+pub const JUDGES: [Judge; 3] = [
+    Judge {
+        name: "the Rattle judge, through `station`",
+        judge: proved,
+    },
+    Judge {
+        name: "`by_ticks`, plain Rust",
+        judge: by_ticks,
+    },
+    Judge {
+        name: "`by_steps`, plain Rust",
+        judge: by_steps,
+    },
+];
+
+fn proved(file: &[u8], bytes: &mut [u8], ledger: &mut [u32]) -> Four {
+    let answer = station::judge(file, bytes, ledger);
+    [
+        answer.number.as_u32(),
+        answer.tick,
+        answer.step,
+        answer.count,
+    ]
+}
+
+fn by_ticks(file: &[u8], bytes: &mut [u8], ledger: &mut [u32]) -> Four {
+    let answer = by_ticks::judge(file, bytes, ledger);
+    [answer.number, answer.tick, answer.step, answer.count]
+}
+
+fn by_steps(file: &[u8], bytes: &mut [u8], ledger: &mut [u32]) -> Four {
+    let answer = by_steps::judge(file, bytes, ledger);
+    [answer.number, answer.tick, answer.step, answer.count]
+}
+
+/// The buffers of one judge.
+#[derive(PartialEq)]
+pub struct Lent {
+    pub bytes: [u8; BYTE_ROOM],
+    pub ledger: [u32; LEDGER_ROOM],
+}
+
+impl Lent {
+    /// Filled with values that no recording here leaves, so that it shows which places were written.
+    pub fn new() -> Self {
+        Lent {
+            bytes: [0xA5; BYTE_ROOM],
+            ledger: [u32::MAX; LEDGER_ROOM],
+        }
+    }
+}

@@ -1,0 +1,42 @@
+//! Before anything is measured: all judges answer alike, and leave the same memory.
+
+use crate::judges::{Four, Judge, Lent, JUDGES};
+use crate::recordings::Recording;
+
+pub fn require_same_answers(recording: &Recording) -> Result<(), String> {
+    let (first, first_lent) = answer(&JUDGES[0], recording);
+    if first[0] != recording.number {
+        return Err(format!(
+            "{}: {} answered {first:?}, not {}",
+            recording.name, JUDGES[0].name, recording.number
+        ));
+    }
+    for judge in &JUDGES[1..] {
+        let (other, lent) = answer(judge, recording);
+        if other != first {
+            return Err(format!(
+                "{}: {} answered {other:?}, {} {first:?}",
+                recording.name, judge.name, JUDGES[0].name
+            ));
+        }
+        if lent != first_lent {
+            return Err(format!(
+                "{}: {} left other memory than {}",
+                recording.name, judge.name, JUDGES[0].name
+            ));
+        }
+    }
+    Ok(())
+}
+
+fn answer(judge: &Judge, recording: &Recording) -> (Four, Lent) {
+    let mut lent = Lent::new();
+    let four = (judge.judge)(&recording.file, &mut lent.bytes, &mut lent.ledger);
+    (four, lent)
+}
+
+/// The bytes that the recording hands over.
+pub fn bytes_of(recording: &Recording) -> Vec<u8> {
+    let (four, lent) = answer(&JUDGES[0], recording);
+    lent.bytes[..four[3] as usize].to_vec()
+}

@@ -1,0 +1,142 @@
+//! Goes through the steps of a recording, and says where a tick lies in them.
+
+use crate::numbers::{ATTENTION, CUT};
+use crate::recording::Recording;
+use crate::step::{Lines, Step, StepBytes};
+
+/// A number with its deciding tick and the step holding it: an answer that
+/// lacks only its count.
+#[derive(Clone, Copy)]
+pub struct Decision {
+    pub number: u32,
+    pub tick: u32,
+    pub step: u32,
+}
+
+/// Stands at one step of a recording.
+pub struct Reader<'a> {
+    steps: &'a [StepBytes],
+    /// The step's number.
+    number: usize,
+    step: Step,
+    /// The first tick after the step.
+    end_tick: u32,
+    /// What running out gives outside of the end E.
+    run_out: u32,
+}
+
+impl<'a> Reader<'a> {
+    /// Stands at step 0, if there is one.
+    ///
+    /// "A tick with ATN pulled gives 23 before anything else." So the steps
+    /// before the first such tick are all that is ever read, and running out of
+    /// them gives 23 in place of 22, at the same place: the tick and the step
+    /// that follow the last one read.
+    pub fn new(recording: &Recording<'a>) -> Result<Self, Decision> {
+        let steps = recording.before_attention();
+        let attention = steps.len() < recording.step_count();
+        let run_out = if attention { ATTENTION } else { CUT };
+        let Some(&first) = steps.first() else {
+            return Err(Decision {
+                number: run_out,
+                tick: 0,
+                step: 0,
+            });
+        };
+        let step = Step::of(first);
+        Ok(Reader {
+            steps,
+            number: 0,
+            step,
+            end_tick: step.duration(),
+            run_out,
+        })
+    }
+
+    /// Goes on to the next step.
+    #[inline]
+    pub fn advance(&mut self) -> Result<Lines, Decision> {
+        self.number += 1;
+        let Some(&next) = self.steps.get(self.number) else {
+            return Err(self.decide_at(self.run_out, self.end_tick));
+        };
+        self.step = Step::of(next);
+        self.end_tick += self.step.duration();
+        Ok(self.lines())
+    }
+
+    /// The step and those that follow it, N in all.
+    #[inline]
+    pub fn ahead<const N: usize>(&self) -> Option<&'a [StepBytes; N]> {
+        self.steps.get(self.number..)?.first_chunk()
+    }
+
+    /// Goes on by some steps, of `ticks` ticks together.
+    #[inline]
+    pub fn pass(&mut self, steps: usize, ticks: u32) -> Result<Lines, Decision> {
+        self.end_tick = self.tick() + ticks;
+        self.number += steps - 1;
+        self.advance()
+    }
+
+    /// The lines of the step.
+    #[inline]
+    pub fn lines(&self) -> Lines {
+        self.step.lines()
+    }
+
+    /// The first tick of the step. Lines change and phases are entered only
+    /// here.
+    #[inline]
+    pub fn tick(&self) -> u32 {
+        self.end_tick - self.step.duration()
+    }
+
+    /// `number` falls at the first tick of the step.
+    #[inline]
+    pub fn decide(&self, number: u32) -> Decision {
+        self.decide_at(number, self.tick())
+    }
+
+    /// A limit: `number` falls if the step holds `tick`, which doesn't lie
+    /// before the step.
+    #[inline]
+    pub fn limit(&self, number: u32, tick: u32) -> Result<(), Decision> {
+        if tick < self.end_tick {
+            Err(self.decide_at(number, tick))
+        } else {
+            Ok(())
+        }
+    }
+
+    /// Goes on while the lines are `lines`; hands back the others that follow.
+    #[inline]
+    pub fn stay(&mut self, lines: Lines) -> Result<Lines, Decision> {
+        let mut seen = self.lines();
+        while seen == lines {
+            seen = self.advance()?;
+        }
+        Ok(seen)
+    }
+
+    /// The same with a limit: the lines being `lines` still at `tick` gives
+    /// `number`. Other lines at that very tick are no matter of the limit.
+    #[inline]
+    pub fn stay_until(&mut self, lines: Lines, tick: u32, number: u32) -> Result<Lines, Decision> {
+        let mut seen = self.lines();
+        while seen == lines {
+            self.limit(number, tick)?;
+            seen = self.advance()?;
+        }
+        Ok(seen)
+    }
+
+    #[inline]
+    fn decide_at(&self, number: u32, tick: u32) -> Decision {
+        Decision {
+            number,
+            tick,
+            step: self.number as u32,
+        }
+    }
+}

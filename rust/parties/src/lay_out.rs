@@ -1,0 +1,74 @@
+//! Spans laid out as tracks.
+
+use crate::{Byte, Pair, Transfer};
+
+impl Transfer {
+    /// Lays the spans out, in place of what `pair` and `ledger` held: the three tracks, and the pair's own two ticks for
+    /// each byte, "the sender's letting go of DATA after bit 8 (where that bit is zero, it stands as offset 0) and the
+    /// receiver's take".
+    pub fn lay_out(&self, pair: &mut Pair, ledger: &mut Vec<u32>) {
+        pair.clock.clear();
+        pair.sender_data.clear();
+        pair.receiver_data.clear();
+        ledger.clear();
+        // Where the latest CLK pull and the receiver's latest take are.
+        let mut clock = 0;
+        let mut take = self.first_take;
+        for (place, byte) in self.bytes.iter().enumerate() {
+            let release = take + byte.hold;
+            pair.clock.add(clock, release);
+            let let_go = release + byte.ready_to_send;
+            pair.receiver_data.add(take, let_go);
+            let mut begin = let_go + byte.ready_for_data;
+            if place + 1 == self.bytes.len() {
+                let end = begin + self.acknowledgement;
+                pair.receiver_data.add(begin, end);
+                begin = end + self.after_acknowledgement;
+            }
+            clock = lay_out_bits(byte, begin, pair);
+            pair.sender_data.add(clock, clock + byte.keep);
+            take = clock + byte.take;
+            ledger.extend([clock + byte.keep, take]);
+        }
+        let release = take + self.last_hold;
+        pair.clock.add(clock, release);
+        let let_go = release + self.last_ready_to_send;
+        pair.receiver_data.add(take, let_go);
+        pair.total = let_go + self.silence;
+    }
+
+    /// The string of its bytes, in place of what `string` held.
+    pub fn put_string(&self, string: &mut Vec<u8>) {
+        string.clear();
+        string.extend(self.bytes.iter().map(|byte| byte.value));
+    }
+}
+
+/// Lays out a byte's bits from their first CLK pull on, and hands back the CLK pull after bit 8.
+fn lay_out_bits(byte: &Byte, begin: u32, pair: &mut Pair) -> u32 {
+    let mut clock = begin;
+    for (place, bit) in byte.bits.iter().enumerate() {
+        let until = clock + bit.set_up + bit.valid;
+        pair.clock.add(clock, clock + bit.set_up);
+        let one = byte.value >> place & 1 == 1;
+        let mut moves = bit.moves;
+        moves.sort_unstable();
+        let moved = moves.iter().filter(|offset| **offset > 0).count();
+        // DATA is pulled up to the first move if the bit is a one and the moves are even, or a zero and they are odd.
+        let mut pulled = one == (moved % 2 == 0);
+        let mut from = clock;
+        for offset in &moves[moves.len() - moved..] {
+            let change = until.min(clock + offset);
+            if pulled {
+                pair.sender_data.add(from, change);
+            }
+            pulled = !pulled;
+            from = change;
+        }
+        if pulled {
+            pair.sender_data.add(from, until);
+        }
+        clock = until;
+    }
+    clock
+}

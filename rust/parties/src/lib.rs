@@ -1,0 +1,36 @@
+//! The sender's and the receiver's own rules, written from document 01, "The two parties' own rules", alone.
+//!
+//! Nothing here judges: there is no phase and no state. A *pair* is three tracks of pulls, and each rule is a statement
+//! about where a pull begins or ends. Two uses:
+//!
+//! - [`check_shown_pair`] reads the pair that a recording and a ledger show, and holds it to every rule. It is what a
+//!   recording judged complete must pass.
+//! - [`Transfer`] is a pair as its spans, and [`draw`](draw::transfer) chooses the spans at random within each rule. It is
+//!   what a judge must find complete.
+
+#![forbid(unsafe_code)]
+#![deny(missing_docs)]
+
+mod check;
+pub mod draw;
+mod lay_out;
+pub mod limits;
+mod lines;
+mod pair;
+mod random;
+mod rules;
+mod shown;
+mod steps;
+mod timetable;
+mod track;
+mod transfer;
+
+pub use check::{check_given, check_shown_pair};
+pub use lines::Lines;
+pub use pair::Pair;
+pub use random::Random;
+pub use rules::check_pair;
+pub use shown::shown_pair;
+pub use steps::{put_file, Step};
+pub use track::{Pull, Track};
+pub use transfer::{Bit, Byte, Transfer};

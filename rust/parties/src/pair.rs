@@ -1,0 +1,98 @@
+//! A pair: a sender track and a receiver track.
+
+use crate::{Step, Track};
+
+/// "A *pair* for a string of one or more bytes is a sender track (CLK and DATA pulls at each tick) and a receiver track
+/// (DATA pulls)". Whether it keeps the rules is another matter: [`check_pair`](crate::check_pair) says.
+#[derive(Clone, Debug, Default, PartialEq, Eq)]
+pub struct Pair {
+    /// The sender's CLK pulls.
+    pub clock: Track,
+    /// The sender's DATA pulls.
+    pub sender_data: Track,
+    /// The receiver's DATA pulls.
+    pub receiver_data: Track,
+    /// How many ticks there are.
+    pub total: u32,
+}
+
+/// The CLK bit of a step's lines.
+const CLOCK: u8 = 2;
+/// The DATA bit of a step's lines.
+const DATA: u8 = 4;
+/// The longest step.
+const LONGEST: u32 = 65_535;
+
+impl Pair {
+    /// The recording that the pair gives, as few steps as there can be: "ATN is released, CLK is the sender's and DATA is
+    /// pulled exactly when either pulls".
+    pub fn steps(&self, steps: &mut Vec<Step>) {
+        steps.clear();
+        let mut tracks = [
+            Cursor::new(&self.clock, CLOCK),
+            Cursor::new(&self.sender_data, DATA),
+            Cursor::new(&self.receiver_data, DATA),
+        ];
+        let mut tick = 0;
+        while tick < self.total {
+            let mut lines = 0;
+            let mut until = self.total;
+            for track in &mut tracks {
+                let (pulled, change) = track.at(tick);
+                lines |= pulled;
+                until = until.min(change);
+            }
+            append(steps, until - tick, lines);
+            tick = until;
+        }
+    }
+}
+
+/// Adds that many ticks of these lines, to the latest step where it shows the same and has room.
+fn append(steps: &mut Vec<Step>, ticks: u32, lines: u8) {
+    let mut left = ticks;
+    if let Some(latest) = steps.last_mut().filter(|latest| latest.lines == lines) {
+        let more = left.min(LONGEST - u32::from(latest.duration));
+        latest.duration += more as u16;
+        left -= more;
+    }
+    while left > 0 {
+        let duration = left.min(LONGEST);
+        steps.push(Step {
+            duration: duration as u16,
+            lines,
+        });
+        left -= duration;
+    }
+}
+
+/// Walks along one track.
+struct Cursor<'a> {
+    track: &'a Track,
+    line: u8,
+    place: usize,
+}
+
+impl Cursor<'_> {
+    fn new(track: &Track, line: u8) -> Cursor<'_> {
+        Cursor {
+            track,
+            line,
+            place: 0,
+        }
+    }
+
+    /// The line's bit if it is pulled at `tick`, and the tick of the next change. `tick` never goes back.
+    fn at(&mut self, tick: u32) -> (u8, u32) {
+        while let Some(pull) = self.track.pulls().get(self.place) {
+            if tick < pull.from {
+                return (0, pull.from);
+            }
+            if tick < pull.until {
+                return (self.line, pull.until);
+            }
+            self.place += 1;
+        }
+        (0, u32::MAX)
+    }
+}
