@@ -44,23 +44,22 @@ all-left file n = rw (sub-zero n)
 pub none-left : (file : List ℕ) (i n : ℕ) → n ≤ i → ticksFrom file i (n - i) ≡ []
 none-left file i n h = ap (map linesOf) (ticks-end file i n h)
 
--- Ticks of a step that are left.
-pub tick-left : (x : Lines) (j d : ℕ) (rest : List Lines) → j < d
-    → replicate (d - j) x ++ rest ≡ x ∷ (replicate (d - (j + 1)) x ++ rest)
-tick-left x j d rest h = let z : d - j ≡ suc (d - (j + 1)) = omega arith in rw z
+-- Ticks of a step that are left: one of them, several, none.
+pub tick-left : (x : Lines) (n : ℕ) (rest : List Lines) → 0 < n → replicate n x ++ rest ≡ x ∷ (replicate (n - 1) x ++ rest)
+tick-left x n rest h = let z : n ≡ suc (n - 1) = omega arith in ap (λ k. replicate k x ++ rest) z
 
 several : (k m : ℕ) (x : Lines) (rest : List Lines) → replicate (k + m) x ++ rest ≡ replicate k x ++ (replicate m x ++ rest)
 several zero m x rest = let z : 0 + m ≡ m = omega arith in rw z
 several (suc k) m x rest = let z : suc k + m ≡ suc (k + m) = omega arith in rw z (ap (λ w. x ∷ w) (several k m x rest))
 
-pub ticks-left : (x : Lines) (j k d : ℕ) (rest : List Lines) → j + k ≤ d
-    → replicate (d - j) x ++ rest ≡ replicate k x ++ (replicate (d - (j + k)) x ++ rest)
-ticks-left x j k d rest h =
-    let z : d - j ≡ k + (d - (j + k)) = omega arith in
-    ap (λ n. replicate n x ++ rest) z ∙ several k (d - (j + k)) x rest
+pub ticks-left : (x : Lines) (k n : ℕ) (rest : List Lines) → k ≤ n
+    → replicate n x ++ rest ≡ replicate k x ++ (replicate (n - k) x ++ rest)
+ticks-left x k n rest h =
+    let z : n ≡ k + (n - k) = omega arith in
+    ap (λ m. replicate m x ++ rest) z ∙ several k (n - k) x rest
 
-pub no-tick-left : (x : Lines) (j d : ℕ) (rest : List Lines) → d ≤ j → replicate (d - j) x ++ rest ≡ rest
-no-tick-left x j d rest h = let z : d - j ≡ 0 = omega arith in rw z
+pub no-tick-left : (x : Lines) (n : ℕ) (rest : List Lines) → n ≤ 0 → replicate n x ++ rest ≡ rest
+no-tick-left x n rest h = let z : n ≡ 0 = omega arith in rw z
 
 -- Steps as spans.
 abbrev span : Step → Span

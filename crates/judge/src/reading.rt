@@ -1,4 +1,4 @@
-// The reading of a recording: step after step, and in each step tick after tick.
+// The reading of a recording: step after step, and in each step tick after tick, idle ticks in one move.
 ghost use mathlib.Core.Path.{_≡_};
 ghost use Rattle.judge.specs.Reading.{Readable, reached, readInto, ticksFrom};
 use crate::handed;
@@ -24,9 +24,9 @@ pub(crate) fn read(
     'steps: while index < steps {
         let step = Step::read(file, index);
         let lines = Lines::of_byte(step.lines);
-        let duration = step.duration;
-        let mut passed: u16 = 0;
-        while passed < duration {
+        let mut left = step.duration;
+        while left > 0 {
+            left -= 1;
             let next = state.next(limits, lines);
             handed::store_byte(bytes, state, next);
             handed::store_ticks(ledger, state, next);
@@ -34,10 +34,10 @@ pub(crate) fn read(
             if next.is_decided() {
                 break 'steps;
             }
-            passed += 1;
-            let idle = next.idle(limits, duration - passed);
+            // Those of the ticks left that only add one to the tick, in one move.
+            let idle = next.idle(limits, left);
             state = next.later(idle);
-            passed += idle;
+            left -= idle;
         }
         index += 1;
     }

@@ -151,9 +151,8 @@ impl Number {
 
     /// The number of that value, if there is one.
     pub(crate) fn from_u32(value: u32) -> Option<Number> {
-        Number::ALL
-            .into_iter()
-            .find(|number| number.as_u32() == value)
+        let place = Number::ALL.binary_search_by_key(&value, |number| number.as_u32());
+        place.ok().map(|place| Number::ALL[place])
     }
 }
 

@@ -2,7 +2,6 @@
 use Prim.Native.Nat.{_≤_, _<_, _+_, _*_, _-_}
 use mathlib.Core.List.{_++_}
 use mathlib.Core.Path.{refl, sym, _∙_}
-use native.Mathlib.Nat.{sub-zero}
 use native.Mathlib.Omega.{arith}
 use borrow.Author.Needs.{needs}
 use lib.ListN.{replicate}
@@ -16,16 +15,15 @@ use Rattle.judge.proofs.reading.read.Statement.{statement}
 use Rattle.judge.proofs.reading.read.Tie as tie
 
 abbrev Inv-loop : tie.InvT-loop
-Inv-loop file steps limits bytes₀ ledger₀ state₀ index lines duration passed₀ bytes ledger state passed =
+Inv-loop file steps limits bytes₀ ledger₀ state₀ index lines left₀ bytes ledger state left =
     let rest = ticksFrom file (index + 1) (steps - (index + 1)) in
-    (passed ≤ duration)
-    × (duration ≤ longestDuration)
+    (left ≤ longestDuration)
     × (index < steps)
-    × Keeps limits (comesTo limits state₀ bytes₀ ledger₀ (replicate duration lines ++ rest)) bytes₀ ledger₀
-    (longestDuration * index + passed) (replicate (duration - passed) lines ++ rest) state bytes ledger
+    × Keeps limits (comesTo limits state₀ bytes₀ ledger₀ (replicate left₀ lines ++ rest)) bytes₀ ledger₀
+    (longestDuration * index + (longestDuration - left)) (replicate left lines ++ rest) state bytes ledger
 
 abbrev μ-loop : tie.MeasureT-loop
-μ-loop file steps limits bytes₀ ledger₀ state₀ index lines duration passed₀ bytes ledger state passed = duration - passed
+μ-loop file steps limits bytes₀ ledger₀ state₀ index lines left₀ bytes ledger state left = left
 
 abbrev Inv-steps : tie.InvT-steps
 Inv-steps file steps limits bytes₀ ledger₀ state₀ index₀ bytes ledger state index =
@@ -60,18 +58,20 @@ loop-holds c =
     let here = step-left (call .args .file .now) _ _ (s .result) _ (s .ensures) (c .of-byte .ensures) (step .before .steps-test .taken) in (
       search needs,
       search needs,
-      search needs,
-      step-begins (call .args .limits) _ _ _ _ _ _ _ _ _ _ _ (outer .steps .inv .1) (omega arith) here (rw sub-zero),
+      step-begins (call .args .limits) _ _ _ _ _ _ _ _ _ _ _ (outer .steps .inv .1) (omega arith) here refl,
     )
+
+sub-left : tie.Need-sub-left Inv-loop μ-loop Inv-steps μ-steps
+sub-left c = search needs
 
 next-requires : tie.Need-next-requires Inv-loop μ-loop Inv-steps μ-steps
 next-requires c κs =
     let inner = c .before in
     let call = inner .before .before .before .before .before .before .before .before .before in
     let k = inner .loop .inv in
-    let place = has-place (call .args .limits) (inner .loop .state) _ (k .3 .few) in
+    let place = has-place (call .args .limits) (inner .loop .state) _ (k .2 .few) in
     record {
-      tick = omega (arith, k .3 .tick, k .0, k .1, k .2, call .pre .few);
+      tick = omega (arith, k .2 .tick, k .1, call .pre .few);
       count = omega (arith, place);
     }
 
@@ -80,7 +80,7 @@ store-byte-requires c κs =
     let inner = c .before .before .before in
     let outer = inner .before .before .before .before in
     let call = outer .before .before .before .before .before in
-    let k = inner .loop .inv .3 in
+    let k = inner .loop .inv .2 in
     let place = has-place (call .args .limits) (inner .loop .state) _ (k .few) in
     omega (arith, place, k .byte-places, outer .steps .inv .1 .byte-places, call .pre .byte-room)
 
@@ -89,18 +89,12 @@ store-ticks-requires c κs =
     let inner = c .before .before .before .before .before .before .before in
     let outer = inner .before .before .before .before in
     let call = outer .before .before .before .before .before in
-    let k = inner .loop .inv .3 in
+    let k = inner .loop .inv .2 in
     let place = has-place (call .args .limits) (inner .loop .state) _ (k .few) in
     omega (arith, place, k .ledger-places, outer .steps .inv .1 .ledger-places, call .pre .ledger-room)
 
 is-decided-requires : tie.Need-is-decided-requires Inv-loop μ-loop Inv-steps μ-steps
 is-decided-requires c κs = search needs
-
-add-passed : tie.Need-add-passed Inv-loop μ-loop Inv-steps μ-steps
-add-passed c = search needs
-
-sub-idle : tie.Need-sub-idle Inv-loop μ-loop Inv-steps μ-steps
-sub-idle c = search needs
 
 idle-requires : tie.Need-idle-requires Inv-loop μ-loop Inv-steps μ-steps
 idle-requires c κs = search needs
@@ -114,23 +108,18 @@ later-requires c κs =
     let k = inner .loop .inv in
     let one = tick-most L _ (next .next .result) _ (next .next .ensures) in
     let few = counted L _ (next .next .result) _ _ _ (next .next .ensures) (c .idle .ensures) .few in
-    omega (arith, one, few, k .3 .tick, k .1, k .2, call .pre .few)
+    omega (arith, one, few, next .before .loop-test .taken, k .2 .tick, k .0, k .1, call .pre .few)
 
-add-passed-2 : tie.Need-add-passed-2 Inv-loop μ-loop Inv-steps μ-steps
-add-passed-2 c =
+sub-left-2 : tie.Need-sub-left-2 Inv-loop μ-loop Inv-steps μ-steps
+sub-left-2 c =
     let next = c .before .before .before .before .before .before .before .before .before .before .before .before in
-    let inner = next .before .before in
-    let L = inner .before .before .before .before .before .before .before .before .before .args .limits in
-    let few = counted L _ (next .next .result) _ _ _ (next .next .ensures) (c .before .idle .ensures) .few in
-    omega (arith, few, next .before .loop-test .taken, inner .loop .inv .1)
+    let L = next .before .before .before .before .before .before .before .before .before .before .before .args .limits in
+    counted L _ (next .next .result) _ _ _ (next .next .ensures) (c .before .idle .ensures) .few
 
 loop-less : tie.Need-loop-less Inv-loop μ-loop Inv-steps μ-steps
 loop-less c =
     let next = c .before .before .before .before .before .before .before .before .before .before .before .before in
-    let inner = next .before .before in
-    let L = inner .before .before .before .before .before .before .before .before .before .args .limits in
-    let few = counted L _ (next .next .result) _ _ _ (next .next .ensures) (c .before .idle .ensures) .few in
-    omega (arith, few, next .before .loop-test .taken)
+    omega (arith, next .before .loop-test .taken)
 
 loop-again : tie.Need-loop-again Inv-loop μ-loop Inv-steps μ-steps
 loop-again c =
@@ -143,20 +132,19 @@ loop-again c =
     let call = outer .before .before .before .before .before in
     let L = call .args .limits in
     let k = inner .loop .inv in
-    let behind = longestDuration * outer .steps .index + (inner .loop .passed + 1) in
-    let on = tick-read L _ _ _ _ behind _ _ _ _ (next .next .result) _ _ _ _ (k .3) (omega arith)
-    (tick-left _ _ _ _ (next .before .loop-test .taken)) (next .next .ensures) (byte .store-byte .ensures) (ticks .store-ticks .ensures) in
+    let more = next .before .loop-test .taken in
+    let left = inner .loop .left - 1 in
+    let behind = longestDuration * outer .steps .index + (longestDuration - left) in
+    let on = tick-read L _ _ _ _ behind _ _ _ _ (next .next .result) _ _ _ _ (k .2) (omega (arith, k .0, more)) (tick-left _ _ _ more)
+    (next .next .ensures) (byte .store-byte .ensures) (ticks .store-ticks .ensures) in
     let n = counted L _ (next .next .result) _ _ _ (next .next .ensures) (idle .idle .ensures) in
     let undecided = sym (idle .before .before .is-decided .ensures) ∙ idle .before .if1 .left in
-    let passed : behind + idle .idle .result ≤ longestDuration * outer .steps .index + (inner .loop .passed + 1 + idle .idle .result) =
-    omega arith in
-    let inside : inner .loop .passed + 1 + idle .idle .result ≤ inner .before .before .read .result .duration =
-    omega (arith, n .few, next .before .loop-test .taken) in (
-      inside,
+    let passed : behind + idle .idle .result ≤ longestDuration * outer .steps .index + (longestDuration - (left - idle .idle .result)) =
+    omega (arith, n .few, k .0) in (
+      omega (arith, k .0),
       k .1,
-      k .2,
       idle-passed L _ _ _ behind _ (idle .idle .result) _ _ _ (next .next .result) (c .later .result) _ _ on passed
-          (ticks-left _ _ _ _ _ inside) (n .idle undecided) (c .later .ensures),
+          (ticks-left _ _ _ _ (n .few)) (n .idle undecided) (c .later .ensures),
     )
 
 add-index : tie.Need-add-index Inv-loop μ-loop Inv-steps μ-steps
@@ -173,10 +161,10 @@ steps-again c =
     let call = outer .before .before .before .before .before in
     let k = inner .loop .inv in
     let s = step .read in
-    let here = step-left (call .args .file .now) _ _ (s .result) _ (s .ensures) (inner .before .of-byte .ensures) (k .2) in (
+    let here = step-left (call .args .file .now) _ _ (s .result) _ (s .ensures) (inner .before .of-byte .ensures) (k .1) in (
       search needs,
-      step-ends (call .args .limits) _ _ _ _ _ _ _ _ _ _ _ _ _ _ _ _ (outer .steps .inv .1) here (k .3)
-          (no-tick-left _ _ _ _ (c .loop-test .left)) (omega (arith, k .0, k .1)),
+      step-ends (call .args .limits) _ _ _ _ _ _ _ _ _ _ _ _ _ _ _ _ (outer .steps .inv .1) here (k .2)
+          (no-tick-left _ _ _ (c .loop-test .left)) (omega arith),
     )
 
 same-length : tie.Need-same-length Inv-loop μ-loop Inv-steps μ-steps
@@ -199,7 +187,7 @@ same-length-3 c =
     let next = byte .before .before in
     let inner = next .before .before in
     byte-keeps-length _ _ (inner .loop .state) (next .next .result) (byte .store-byte .ensures)
-    ∙ inner .loop .inv .3 .byte-places
+    ∙ inner .loop .inv .2 .byte-places
     ∙ inner .before .before .before .before .steps .inv .1 .byte-places
 
 same-length-4 : tie.Need-same-length-4 Inv-loop μ-loop Inv-steps μ-steps
@@ -208,7 +196,7 @@ same-length-4 c =
     let next = ticks .before .before .before .before .before .before in
     let inner = next .before .before in
     ticks-keep-length _ _ (inner .loop .state) (next .next .result) (ticks .store-ticks .ensures)
-    ∙ inner .loop .inv .3 .ledger-places
+    ∙ inner .loop .inv .2 .ledger-places
     ∙ inner .before .before .before .before .steps .inv .1 .ledger-places
 
 returns-2 : tie.Need-returns-2 Inv-loop μ-loop Inv-steps μ-steps
@@ -223,11 +211,11 @@ returns-2 c =
     let L = call .args .limits in
     let k = inner .loop .inv in
     let s = step .read in
-    let behind = longestDuration * outer .steps .index + (inner .loop .passed + 1) in
-    let ahead = tick-left _ _ _ _ (next .before .loop-test .taken) in
-    let on = tick-read L _ _ _ _ behind _ _ _ _ (next .next .result) _ _ _ _ (k .3) (omega arith) ahead (next .next .ensures)
-    (byte .store-byte .ensures) (ticks .store-ticks .ensures) in
-    let here = step-left (call .args .file .now) _ _ (s .result) _ (s .ensures) (inner .before .of-byte .ensures) (k .2) in
+    let more = next .before .loop-test .taken in
+    let behind = longestDuration * outer .steps .index + (longestDuration - (inner .loop .left - 1)) in
+    let on = tick-read L _ _ _ _ behind _ _ _ _ (next .next .result) _ _ _ _ (k .2) (omega (arith, k .0, more)) (tick-left _ _ _ more)
+    (next .next .ensures) (byte .store-byte .ensures) (ticks .store-ticks .ensures) in
+    let here = step-left (call .args .file .now) _ _ (s .result) _ (s .ensures) (inner .before .of-byte .ensures) (k .1) in
     let whole = step-ends L _ _ _ _ _ behind _ _ _ _ _ _ _ _ _ _ (outer .steps .inv .1) here on refl (omega arith) in
     let few = few-handed L (call .args .file .now) (call .args .steps) (call .pre .few) in
     sym (verdict-stands L _ _ _ _ _ _ _ _ whole (sym (c .before .is-decided .ensures) ∙ c .if1 .taken))
@@ -246,15 +234,14 @@ read-spec =
     read-requires
     of-byte-requires
     loop-holds
+    sub-left
     next-requires
     store-byte-requires
     store-ticks-requires
     is-decided-requires
-    add-passed
-    sub-idle
     idle-requires
     later-requires
-    add-passed-2
+    sub-left-2
     loop-less
     loop-again
     add-index
