@@ -21,15 +21,13 @@ fn ticks_below(limit: u32, since: u32, now: u32, most: u16) -> u16
     (end - first) as u16
 }
 
-impl State {
-    // How many of `most` further ticks are idle, if they show the lines of the tick before them: those that come before the phase's own
-    // limit, or all where it has none.
-    pub fn idle(self, limits: Limits, most: u16) -> u16
-        ensures { λ r. ⌜ r ≡ idleTicks limits (self .phase) (self .tick) most ⌝ }
+impl Phase {
+    // How many of `most` further ticks, the first of them `now`, are idle, if they show the lines of the tick before them: those that come
+    // before the phase's own limit, or all where it has none.
+    fn idle(self, limits: Limits, now: u32, most: u16) -> u16
+        ensures { λ r. ⌜ r ≡ idleTicks limits self now most ⌝ }
     {
-        let now = self.tick;
-        let phase = self.phase;
-        match phase {
+        match self {
             Phase::Start => ticks_below(limits.presence, 0, now, most),
             Phase::FirstHold => most,
             Phase::Hold(..) => most,
@@ -48,6 +46,16 @@ impl State {
             Phase::End(..) => most,
             Phase::Decided(..) => most,
         }
+    }
+}
+
+impl State {
+    // How many of `most` further ticks are idle, if they show the lines of the tick before them.
+    pub fn idle(self, limits: Limits, most: u16) -> u16
+        ensures { λ r. ⌜ r ≡ idleTicks limits (self .phase) (self .tick) most ⌝ }
+    {
+        let phase = self.phase;
+        phase.idle(limits, self.tick, most)
     }
 
     // The same, so many ticks later.

@@ -9,7 +9,8 @@ use Rattle.recording.specs.Layout.{longestDuration}
 use Rattle.judge.specs.Reading.{ticksFrom}
 use Rattle.judge.proofs.HandedLists.{byte-keeps-length, ticks-keep-length}
 use Rattle.judge.proofs.TickLists.{step-left, all-left, none-left, tick-left, ticks-left, no-tick-left, few-handed}
-use Rattle.judge.proofs.ReadingLaws.{comesTo, Keeps, tick-read, tick-most, counted, idle-passed, step-begins, step-ends, reading-ends, verdict-stands}
+use Rattle.judge.proofs.ReadingLaws.{comesTo, Keeps, tick-read, tick-most, counted, idle-passed}
+use Rattle.judge.proofs.ReadingLaws.{step-begins, step-ends, reading-ends, verdict-stands}
 use Rattle.judge.proofs.ReadingLaws.{has-place, reading-begins, reading-is}
 use Rattle.judge.proofs.reading.read.Statement.{statement}
 use Rattle.judge.proofs.reading.read.Tie as tie
@@ -139,11 +140,11 @@ loop-again c =
     (next .next .ensures) (byte .store-byte .ensures) (ticks .store-ticks .ensures) in
     let n = counted L _ (next .next .result) _ _ _ (next .next .ensures) (idle .idle .ensures) in
     let undecided = sym (idle .before .before .is-decided .ensures) ∙ idle .before .if1 .left in
-    let passed : behind + idle .idle .result ≤ longestDuration * outer .steps .index + (longestDuration - (left - idle .idle .result)) =
-    omega (arith, n .few, k .0) in (
+    let i = idle .idle .result in
+    let passed : behind + i ≤ longestDuration * outer .steps .index + (longestDuration - (left - i)) = omega (arith, n .few, k .0) in (
       omega (arith, k .0),
       k .1,
-      idle-passed L _ _ _ behind _ (idle .idle .result) _ _ _ (next .next .result) (c .later .result) _ _ on passed
+      idle-passed L _ _ _ behind _ i _ _ _ (next .next .result) (c .later .result) _ _ on passed
           (ticks-left _ _ _ _ (n .few)) (n .idle undecided) (c .later .ensures),
     )
 
