@@ -51,9 +51,9 @@ unfolding afterBit
 more-bits zero x f e = absurd (e refl)
 more-bits (suc n) x f e = ap f (omega arith)
 
--- The phase that an arm was told.
-pub told : (L : Limits) (s : State) (l : Lines) {p q : Phase} → p ≡ q → readIn L s q l ≡ readIn L s p l
-told L s l e = sym (ap (λ (p : Phase). readIn L s p l) e)
+-- An arm was told the phase that the state is in: what the arm returns by its rows is what the state's rows give.
+pub told : (L : Limits) (s : State) (l : Lines) {p q : Phase} {r : State} → p ≡ q → r ≡ readIn L s q l → r ≡ readIn L s p l
+told L s l e f = f ∙ sym (ap (λ (p : Phase). readIn L s p l) e)
 
 pub decision-told : (tick : ℕ) {p q : Phase} → p ≡ q → decisionOf q tick ≡ decisionOf p tick
 decision-told tick e = sym (ap (λ (p : Phase). decisionOf p tick) e)
