@@ -1,4 +1,4 @@
--- Why it holds. Mission, Demand3 and Samples have the theorems; the rest are the laws by which the functions go.
+-- Why it holds. Mission and Demand3 have the theorems; the rest are the laws by which the functions go.
 pub mod Tests
 pub mod LedgerLists
 pub mod JudgedLaws
@@ -6,7 +6,6 @@ pub mod Demand3
 pub mod Numbers
 pub mod Mission
 pub mod LongFiles
-pub mod Samples
 pub mod TickLists
 pub mod HandedLists
 pub mod ReadingLaws

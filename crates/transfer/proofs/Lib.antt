@@ -15,5 +15,4 @@ pub mod Backward
 pub mod Shown
 pub mod Demand3
 pub mod Endings
-pub mod Readings
 pub mod Facts
