@@ -1,19 +1,43 @@
-// A second judge of recordings, written from document 01 by itself so that it can be held against the first one.
-// It goes by steps and their durations: its cost is that of the number of steps, however many ticks they last.
+// A second judge of bus recordings, made from document 01 ("What is required and the exact rules") alone.
+// It goes by steps and durations: in each step the first tick is tried against the rows of the phase, and of the ticks
+// after it, which show the same lines, only the limit of the phase is asked. "A choice" marks the places where document
+// 01 was read in one of several ways.
 mod bits;
-mod end_mark;
-mod finding;
+mod byte;
 mod handover;
-mod judge;
-mod lent;
+mod layout;
 mod limits;
+mod lines;
+mod next;
 mod numbers;
-mod order;
+mod patience;
+mod phase;
+mod place;
 mod reading;
-mod recording;
-mod refusal;
-mod staying;
-mod stepping;
+mod refusals;
+mod rows;
+mod storing;
+mod testing;
 
-pub use finding::Finding;
-pub use judge::judge_by_steps;
+// "An answer is a number, a tick, a step and a count."
+pub struct Finding {
+    pub number: u32,
+    pub tick: u32,
+    pub step: u32,
+    pub count: u32,
+}
+
+// Refusals 1 to 9 and verdicts 20 to 37 of document 01. "Every refusal has tick 0 and count 0, .. and no lent byte or
+// number changes": of the lent memory it takes the lengths alone.
+pub fn judge_by_steps(file: &[u8], bytes: &mut [u8], ledger: &mut [u32]) -> Finding {
+    let tested = refusals::test(file, bytes.len(), ledger.len());
+    if tested.number != numbers::NONE {
+        return Finding {
+            number: tested.number,
+            tick: 0,
+            step: tested.step,
+            count: 0,
+        };
+    }
+    reading::read_steps(file, tested.steps, bytes, ledger)
+}

@@ -1,59 +1,49 @@
-// The times and sizes of document 01, each under one name. After each stands the source that document 01 gives for it: 000, 003, H (a
-// house limit), or "unmarked" where it gives none. Times are in ticks.
+// "Each house time has one name, used wherever the time is meant." Ticks of 1 microsecond; H marks house limits.
 
-// The recording layout and the room lent.
-pub const HEADER_BYTES: u32 = 16;
+// A: "(1,0): stay; at offset 256 it is 24 instead".
+pub const NO_RECEIVER_AT: u32 = 256;
 
-pub const STEP_BYTES: u32 = 4;
+// B: "only 100 or more ticks after its take".
+pub const HOLD_AFTER_TAKE: u32 = 100;
 
-pub const VERSION: u32 = 1;
+// D: "CLK pulled at offset 1 to 199" goes before the end mark's window, "(0,1) at 200 to 290" lies in it.
+pub const END_MARK_FROM: u32 = 200;
 
-pub const STEPS_MOST: u32 = 16000;
+// D: "(0,0): stay; at offset 290 it is 27" (H).
+pub const END_MARK_NOT_ACKNOWLEDGED_AT: u32 = 290;
 
-pub const LINES_MOST: u8 = 15;
+// F: "(0,0): before offset 60 it is 28".
+pub const ACKNOWLEDGEMENT_FROM: u32 = 60;
 
-pub const BYTE_PLACES: usize = 1000;
+// F: "(0,1): stay; at offset 150 (H) it is 29".
+pub const ACKNOWLEDGEMENT_LONG_AT: u32 = 150;
 
-pub const LEDGER_PLACES: usize = 2000;
+// G: "CLK pulled: at offset up to 60 bits (003), later 30".
+pub const CLOCK_UP_TO: u32 = 60;
 
-// A: a receiver that has not taken DATA at this offset is not there (000).
-pub const FIRST_TAKE_BY: u32 = 256;
+// G: "at 512 ticks after D's first tick (000)".
+pub const SENDER_TIME_OUT: u32 = 512;
 
-// B: after a byte CLK is released this long after the take, or longer (000).
-pub const HOLD_LEAST: u32 = 100;
-
-// D: CLK is pulled before this offset; the receiver acknowledges the end mark at it or later (unmarked).
-pub const ACKNOWLEDGE_FROM: u32 = 200;
-
-// D: and at this offset or sooner (H).
-pub const ACKNOWLEDGE_BY: u32 = 290;
-
-// F: an acknowledgement lasts this long or longer (unmarked).
-pub const ACKNOWLEDGEMENT_LEAST: u32 = 60;
-
-// F: and no longer than this (H).
-pub const ACKNOWLEDGEMENT_MOST: u32 = 150;
-
-// G: the clock is pulled at this offset or sooner (003).
-pub const CLOCK_BY: u32 = 60;
-
-// G: this long after D's first tick the sender has timed out (000).
-pub const SENDER_BY: u32 = 512;
-
-// Bits: a set-up lasts no longer than this (H).
+// Set-up: "CLK pulled for 1 to 200 ticks (H); a 201st is 34".
 pub const SET_UP_MOST: u32 = 200;
 
-// Bits: a bit is valid this long or longer (003).
-pub const VALID_LEAST: u32 = 20;
-
-// Bits: and no longer than this (H).
+// Valid: "A 201st valid tick (H): 34".
 pub const VALID_MOST: u32 = 200;
 
-// The bits of a byte.
+// Valid: "CLK pulled after fewer than 20 valid ticks (003): 32".
+pub const VALID_LEAST: u32 = 20;
+
+// Handover, open: "(1,0) stays; at offset 1,000 it is 35".
+pub const RECEIVER_TIME_OUT: u32 = 1000;
+
+// Handover, carried: "(1,0) at offset up to 100 (H): open from here".
+pub const CARRIED_UP_TO: u32 = 100;
+
+// Handover, carried: "take and letting go both at offset 1".
+pub const CARRIED_TAKE: u32 = 1;
+
+// "Bits, eight".
 pub const BITS: u32 = 8;
 
-// Handover: the sender stops carrying DATA on at this offset or sooner (H).
-pub const CARRIED_MOST: u32 = 100;
-
-// Handover: a receiver that has not taken DATA at this offset has timed out (unmarked).
-pub const TAKE_BY: u32 = 1000;
+// No recording lasts so long: its total ticks are a number of four bytes.
+pub const NO_LIMIT: u32 = 4294967295;

@@ -1,26 +1,26 @@
-// Document 01's numbers.
+// The numbers of "Numbers and what they leave".
 
-// No refusal is due. No answer of the judge has this number.
-pub const NO_REFUSAL: u32 = 0;
+// No number of document 01: nothing is refused or decided yet.
+pub const NONE: u32 = 0;
 
-// Refusals, in the order in which they are tested.
-pub const FEWER_THAN_A_HEADER: u32 = 1;
+// Refusals.
+pub const FEWER_THAN_16_BYTES: u32 = 1;
 
-pub const WRONG_VERSION: u32 = 2;
+pub const VERSION: u32 = 2;
 
 pub const TOO_MANY_STEPS: u32 = 3;
 
-pub const WRONG_OFFSET: u32 = 4;
+pub const OFFSET: u32 = 4;
 
-pub const WRONG_LENGTH: u32 = 5;
+pub const LENGTH: u32 = 5;
 
-pub const EMPTY_STEP: u32 = 6;
+pub const DURATION_ZERO: u32 = 6;
 
-pub const WRONG_LINES: u32 = 7;
+pub const OTHER_BITS: u32 = 7;
 
-pub const WRONG_TOTAL: u32 = 8;
+pub const TOTAL_TICKS: u32 = 8;
 
-pub const BUFFERS_TOO_SMALL: u32 = 9;
+pub const TOO_FEW_PLACES: u32 = 9;
 
 // Verdicts.
 pub const COMPLETE: u32 = 20;
@@ -37,7 +37,7 @@ pub const BAD_START: u32 = 25;
 
 pub const OUT_OF_TURN: u32 = 26;
 
-pub const NOT_ACKNOWLEDGED: u32 = 27;
+pub const END_MARK_NOT_ACKNOWLEDGED: u32 = 27;
 
 pub const ACKNOWLEDGEMENT_SHORT: u32 = 28;
 

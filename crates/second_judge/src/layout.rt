@@ -1,0 +1,64 @@
+// "Recording layout": a header of 16 bytes, then steps of 4 bytes, little-endian.
+ghost use mathlib.Core.Path.{_≡_};
+ghost use Prim.Native.Nat.{_+_, _*_, _≤_, _<_};
+ghost use lib.ListN.{length};
+
+pub const HEADER_BYTES: usize = 16;
+
+pub const STEP_BYTES: u32 = 4;
+
+// "0-1 version, 1; 2-3 step count n, 0 to 16,000; 4-7 offset of the first step, 16".
+pub const VERSION: u32 = 1;
+
+pub const MOST_STEPS: u32 = 16000;
+
+pub const OFFSET: u32 = 16;
+
+// "Each step is 4 bytes: duration 1 to 65,535 in two bytes; lines in one byte; one zero byte": as one number, the
+// duration is what is left over by this, and the lines are how often it goes in, with the zero byte on top of them.
+pub const LINES_FROM: u32 = 65536;
+
+// The header's fields, by their first byte.
+pub const VERSION_AT: usize = 0;
+
+pub const STEP_COUNT_AT: usize = 2;
+
+pub const OFFSET_AT: usize = 4;
+
+pub const TOTAL_TICKS_AT: usize = 8;
+
+pub const FILE_LENGTH_AT: usize = 12;
+
+fn wide(byte: u8) -> u32
+    ensures { λ r. ⌜ r < 256 ⌝ }
+{
+    byte as u32
+}
+
+pub fn two_bytes(file: &[u8], at: usize) -> u32
+    requires { ⌜ at + 2 ≤ length (now file) ⌝ }
+    ensures { λ r. ⌜ r < 65536 ⌝ }
+{
+    wide(file[at]) + 256 * wide(file[at + 1])
+}
+
+pub fn four_bytes(file: &[u8], at: usize) -> u32
+    requires { ⌜ at + 4 ≤ length (now file) ⌝ }
+{
+    two_bytes(file, at) + 65536 * two_bytes(file, at + 2)
+}
+
+// "file length, 16+4n": also where the step after the first n ones would begin.
+pub fn length_for(steps: u32) -> u32
+    requires { ⌜ steps < 65536 ⌝ }
+    ensures { λ r. ⌜ r ≡ 16 + 4 * steps ⌝ }
+{
+    OFFSET + STEP_BYTES * steps
+}
+
+// A step's 4 bytes as one number, of which the duration is the lower half.
+pub fn step_at(file: &[u8], step: u32) -> u32
+    requires { ⌜ (step < 16000) × (20 + 4 * step ≤ length (now file)) ⌝ }
+{
+    four_bytes(file, length_for(step) as usize)
+}

@@ -1,0 +1,30 @@
+// Which rows a tick is tried against, and what it leads to.
+use crate::bits;
+use crate::handover;
+use crate::numbers;
+use crate::phase;
+use crate::rows;
+
+// `lines` and `before` have "bit 0 ATN, 1 CLK, 2 DATA" of this tick and of the one before; DATA is steady where both
+// show the same. "A tick with ATN pulled gives 23 before anything else".
+// A choice: also at tick 0 and in E. A byte that such a tick would have handed over is not handed over.
+pub fn next(phase: u32, offset: u32, lines: u32, before: u32, bits: u32, end_mark: bool) -> u32 {
+    if lines % 2 == 1 {
+        return numbers::ATTENTION;
+    }
+    let pulled = lines / 2 % 4;
+    let steady = lines / 4 % 2 == before / 4 % 2;
+    match phase {
+        phase::START => rows::start(pulled, offset),
+        phase::HOLD => rows::hold(pulled, offset, bits),
+        phase::READY_TO_SEND => rows::ready_to_send(pulled, end_mark),
+        phase::READY_FOR_DATA => rows::ready_for_data(pulled, offset),
+        phase::ACKNOWLEDGEMENT => rows::acknowledgement(pulled, offset),
+        phase::ACKNOWLEDGED => rows::acknowledged(pulled, offset),
+        phase::SET_UP => bits::set_up(pulled, steady),
+        phase::VALID => bits::valid(pulled, steady, offset, bits),
+        phase::CARRIED => handover::carried(pulled, offset),
+        phase::OPEN => handover::open(pulled),
+        _ => rows::end(pulled),
+    }
+}

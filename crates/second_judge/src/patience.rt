@@ -1,0 +1,73 @@
+// How long a phase may last while its lines stay as they are: the rows that say "stay; at offset .. it is ..".
+use crate::Finding;
+use crate::limits;
+use crate::numbers;
+use crate::phase;
+use crate::place::Place;
+
+// The verdict that falls in a step, from its first tick on and before the tick `end`, at which it is over; or no
+// number. The place is the one after the first tick. A limit's tick may lie after the recording's last, and so is wide.
+pub fn found_in(place: Place, count: u32, step: u32, end: u32) -> Finding {
+    let phase = place.phase;
+    let from = counted_from(phase, place.since, place.ready_for_data);
+    let tick = from as u64 + limit_of(phase) as u64;
+    if tick < end as u64 {
+        Finding {
+            number: verdict_of(phase, count),
+            tick: tick as u32,
+            step,
+            count,
+        }
+    } else {
+        Finding {
+            number: numbers::NONE,
+            tick: 0,
+            step,
+            count,
+        }
+    }
+}
+
+// G's limit counts from D's first tick, every other from the phase's own offset 0.
+fn counted_from(phase: u32, since: u32, ready_for_data: u32) -> u32 {
+    if phase == phase::ACKNOWLEDGED {
+        ready_for_data
+    } else {
+        since
+    }
+}
+
+// The offset at which staying is a verdict. What the first tick led to may be a verdict already: that one falls at
+// offset 0.
+fn limit_of(phase: u32) -> u32 {
+    match phase {
+        phase::START => limits::NO_RECEIVER_AT,
+        phase::READY_FOR_DATA => limits::END_MARK_NOT_ACKNOWLEDGED_AT,
+        phase::ACKNOWLEDGEMENT => limits::ACKNOWLEDGEMENT_LONG_AT,
+        phase::ACKNOWLEDGED => limits::SENDER_TIME_OUT,
+        phase::SET_UP => limits::SET_UP_MOST,
+        phase::VALID => limits::VALID_MOST,
+        phase::OPEN => limits::RECEIVER_TIME_OUT,
+        numbers::COMPLETE..=numbers::MOVED_AFTER_THE_END => 0,
+        // B, C, carried and E.
+        _ => limits::NO_LIMIT,
+    }
+}
+
+// The verdict at that offset. G: "it is 21 if no byte was handed over, otherwise 31".
+fn verdict_of(phase: u32, count: u32) -> u32 {
+    match phase {
+        phase::START => numbers::NO_RECEIVER,
+        phase::READY_FOR_DATA => numbers::END_MARK_NOT_ACKNOWLEDGED,
+        phase::ACKNOWLEDGEMENT => numbers::ACKNOWLEDGEMENT_LONG,
+        phase::ACKNOWLEDGED => if count == 0 {
+            numbers::EMPTY_STREAM
+        } else {
+            numbers::SENDER_TIME_OUT
+        },
+        phase::SET_UP => numbers::CLOCK_STALL,
+        phase::VALID => numbers::CLOCK_STALL,
+        phase::OPEN => numbers::RECEIVER_TIME_OUT,
+        _ => phase,
+    }
+}
