@@ -1,55 +1,87 @@
 // The classes of recordings, and all cases of each.
-mod extremes;
+mod bases;
 mod handovers;
 mod limits;
+mod making;
 mod meetings;
 mod noise;
 mod pairs;
+mod required;
 mod rooms;
 mod samples;
 mod strings;
 mod values;
 
-use crate::compared::case::Class;
+use crate::compared::case::Case;
+use crate::compared::class;
+use crate::compared::differences;
+use crate::compared::judged::compare;
+use crate::damage::compare_damaged;
+use crate::made::draft::part;
+use crate::made::extremes;
 
-pub(crate) fn compare_class(class: Class, file: &mut [u8], spare: &mut [u8], scores: &mut [u32]) {
-    compare_cases(class, cases(class), file, spare, scores);
+// How many cases each class has, in the order of the classes' numbers.
+const CASES: [u32; 10] = [
+    samples::CASES,
+    values::CASES,
+    strings::CASES,
+    limits::CASES,
+    handovers::CASES,
+    pairs::CASES,
+    rooms::CASES,
+    noise::CASES,
+    extremes::CASES,
+    meetings::CASES,
+];
+
+// How many damaged copies of each recording of a class are compared too.
+const COPIES: [u32; 10] = [40, 1, 3, 1, 2, 3, 0, 1, 5, 0];
+
+pub(crate) fn compare_classes(file: &mut [u8], spare: &mut [u8], scores: &mut [u32]) {
+    let mut class: u32 = 0;
+    while class < class::COUNT {
+        compare_cases(class, CASES[(class % 10) as usize], file, spare, scores);
+        class += 1;
+    }
 }
 
-fn compare_cases(class: Class, cases: u32, file: &mut [u8], spare: &mut [u8], scores: &mut [u32]) {
+fn compare_cases(class: u32, cases: u32, file: &mut [u8], spare: &mut [u8], scores: &mut [u32]) {
     let mut number: u32 = 0;
     while number < cases {
-        compare_case(class, number, file, spare, scores);
+        let case = Case {
+            class,
+            number,
+            damage: 0,
+        };
+        compare_case(case, file, spare, scores);
         number += 1;
     }
 }
 
-fn cases(class: Class) -> u32 {
-    match class {
-        Class::Samples => samples::CASES,
-        Class::Values => values::CASES,
-        Class::Strings => strings::CASES,
-        Class::Limits => limits::CASES,
-        Class::Meetings => meetings::CASES,
-        Class::Handovers => handovers::CASES,
-        Class::Pairs => pairs::CASES,
-        Class::Rooms => rooms::CASES,
-        Class::Noise => noise::CASES,
-        Class::Extremes => extremes::CASES,
+// Makes the case's recording in `file`, and compares it.
+fn compare_case(case: Case, file: &mut [u8], spare: &mut [u8], scores: &mut [u32]) {
+    if making::is_made(case) {
+        let length = making::put_case(case, file, spare);
+        compare_made(case, part(file, length), spare, scores);
     }
 }
 
-fn compare_case(class: Class, number: u32, file: &mut [u8], spare: &mut [u8], scores: &mut [u32]) {
-    match class {
-        Class::Samples => samples::compare_sample(number, file, spare, scores),
-        Class::Values => values::compare_value(number, file, spare, scores),
-        Class::Strings => strings::compare_string(number, file, spare, scores),
-        Class::Limits => limits::compare_limit(number, file, spare, scores),
-        Class::Meetings => meetings::compare_meeting(number, file, scores),
-        Class::Handovers => handovers::compare_handover(number, file, spare, scores),
-        Class::Pairs => pairs::compare_pair(number, file, spare, scores),
-        Class::Rooms => rooms::compare_rooms(number, file, scores),
-        Class::Noise => noise::compare_noise(number, file, spare, scores),
-        Class::Extremes => extremes::compare_extreme(number, file, spare, scores),
-    }
+// The recording as it was made, with what was noted of it in `spare`; and its damaged copies, which are made there.
+fn compare_made(case: Case, file: &[u8], spare: &mut [u8], scores: &mut [u32]) {
+    let outcome = compare(file, case, scores);
+    differences::require(
+        required::is_as_required(case, outcome, file, spare),
+        b"not as its class requires: ",
+        outcome,
+        file,
+        case,
+        scores,
+    );
+    compare_damaged(
+        file,
+        spare,
+        case,
+        COPIES[(case.class % 10) as usize],
+        scores,
+    );
 }

@@ -5,7 +5,7 @@ mod shape;
 
 use crate::compared::case::Case;
 use crate::compared::judged::compare;
-use crate::made::draft::Draft;
+use crate::made::draft;
 use crate::made::draft::part;
 use crate::made::random::Random;
 
@@ -31,9 +31,10 @@ fn compare_copy(file: &[u8], spare: &mut [u8], case: Case, scores: &mut [u32]) {
 
 // The list of steps may change, then something in its place, and half of the time something else too.
 fn put_damaged(file: &[u8], spare: &mut [u8], random: Random) -> usize {
-    let copied = shape::put_shaped(file, spare, Draft::plain(random));
-    let made = copied.finish(spare);
-    change_twice(spare, made, copied.random.next())
+    draft::begin(spare);
+    shape::put_shaped(file, spare, random);
+    let made = draft::finish(spare);
+    change_twice(spare, made, random.next().next())
 }
 
 fn change_twice(file: &mut [u8], length: usize, random: Random) -> usize {

@@ -5,8 +5,7 @@ mod damage;
 mod made;
 mod output;
 
-use crate::classes::compare_class;
-use crate::compared::case::Class;
+use crate::classes::compare_classes;
 use crate::compared::scores;
 use crate::output::report;
 
@@ -17,15 +16,6 @@ fn main() {
     let mut file = [0u8; ROOM];
     let mut spare = [0u8; ROOM];
     let mut scores = [0u32; scores::PLACES];
-    compare_class(Class::Samples, &mut file, &mut spare, &mut scores);
-    compare_class(Class::Values, &mut file, &mut spare, &mut scores);
-    compare_class(Class::Strings, &mut file, &mut spare, &mut scores);
-    compare_class(Class::Limits, &mut file, &mut spare, &mut scores);
-    compare_class(Class::Handovers, &mut file, &mut spare, &mut scores);
-    compare_class(Class::Pairs, &mut file, &mut spare, &mut scores);
-    compare_class(Class::Rooms, &mut file, &mut spare, &mut scores);
-    compare_class(Class::Noise, &mut file, &mut spare, &mut scores);
-    compare_class(Class::Extremes, &mut file, &mut spare, &mut scores);
-    compare_class(Class::Meetings, &mut file, &mut spare, &mut scores);
+    compare_classes(&mut file, &mut spare, &mut scores);
     report::print_report(&scores);
 }

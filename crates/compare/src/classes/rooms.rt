@@ -1,76 +1,65 @@
 // Buffers shorter and longer than asked, for recordings of each kind. Refusals 1 to 8 come before 9.
-use crate::compared::case::Case;
-use crate::compared::case::Class;
-use crate::compared::judged::Room;
-use crate::compared::judged::compare_in;
+use crate::compared::room::Room;
 use crate::made::draft;
-use crate::made::draft::part;
 use crate::made::extremes::put_extreme;
 use crate::made::fields;
 use crate::made::samples;
 
-pub(crate) const CASES: u32 = 30 * KINDS;
+pub(crate) const CASES: u32 = Room::COUNT * KINDS;
 
 // The samples, each refusal from 1 to 8, and two recordings of many bytes.
 const KINDS: u32 = samples::SAMPLES + 10;
 
-const BYTE_ROOMS: [usize; 6] = [0, 1, 999, 1000, 1001, 1200];
-
-const LEDGER_ROOMS: [usize; 5] = [0, 1999, 2000, 2001, 2400];
-
-pub(crate) fn compare_rooms(number: u32, file: &mut [u8], scores: &mut [u32]) {
-    let case = Case::new(Class::Rooms, number);
-    let room = Room {
-        bytes: BYTE_ROOMS[(number % 6) as usize],
-        ledger: LEDGER_ROOMS[(number / 6 % 5) as usize],
-    };
-    let length = put_kind(file, number / 30);
-    compare_in(part(file, length), room, case, scores);
+pub(crate) fn put_kind(number: u32, file: &mut [u8]) -> usize {
+    let kind = number / Room::COUNT;
+    put_good(file, kind);
+    let length = draft::finish(file);
+    refuse(
+        file,
+        length,
+        std::num::wrapping_sub_u32(kind, samples::SAMPLES),
+    )
 }
 
-fn put_kind(file: &mut [u8], kind: u32) -> usize {
-    if kind < samples::SAMPLES {
-        return samples::put_sample(file, kind);
+// Those that are refused are S1 so far.
+fn put_good(file: &mut [u8], kind: u32) {
+    match kind {
+        0..=16 => samples::put_sample(file, kind),
+        17..=24 => samples::put_sample(file, 0),
+        25 => {
+            writer::write(&[0x99; 799], file);
+        }
+        _ => put_extreme(file, 3),
     }
-    if kind < samples::SAMPLES + 8 {
-        return put_refused(file, kind - samples::SAMPLES + 1);
-    }
-    if kind == samples::SAMPLES + 8 {
-        return writer::write(&[0x99; 799], file).count as usize;
-    }
-    put_extreme(file, 3)
 }
 
-// S1, changed so that this refusal is due.
-fn put_refused(file: &mut [u8], refusal: u32) -> usize {
-    let length = samples::put_sample(file, 0);
-    if refusal == 1 {
+// Four bytes, and the place in S1 where they are put.
+struct Change(usize, u32);
+
+const CHANGES: [Change; 8] = [
+    // None.
+    Change(draft::VERSION_AT, 0x0019_0001),
+    // Version 2; 16,001 steps; another offset and length.
+    Change(draft::VERSION_AT, 0x0019_0002),
+    Change(draft::VERSION_AT, 0x3E81_0001),
+    Change(draft::OFFSET_AT, 20),
+    Change(draft::LENGTH_AT, 117),
+    // No ticks in step 3; a bit in the last byte of step 24; other ticks in all.
+    Change(28, 0x0004_0000),
+    Change(112, 0x0100_0064),
+    Change(draft::TOTAL_AT, 2009),
+];
+
+// Changes S1 so that a refusal is due, and gives the length: the first refusal is of a file of 15 bytes. Other kinds
+// stay as they are.
+fn refuse(file: &mut [u8], length: usize, index: u32) -> usize {
+    if 8 <= index {
+        return length;
+    }
+    let change = CHANGES[(index % 8) as usize];
+    fields::put_u32(file, change.0, change.1);
+    if index == 0 {
         return 15;
     }
-    if refusal == 2 {
-        fields::put_u16(file, draft::VERSION_AT, 2);
-        return length;
-    }
-    if refusal == 3 {
-        fields::put_u16(file, draft::COUNT_AT, 16_001);
-        return length;
-    }
-    if refusal == 4 {
-        fields::put_u32(file, draft::OFFSET_AT, 20);
-        return length;
-    }
-    if refusal == 5 {
-        fields::put_u32(file, draft::LENGTH_AT, 117);
-        return length;
-    }
-    if refusal == 6 {
-        fields::put_u16(file, draft::step_place(3), 0);
-        return length;
-    }
-    if refusal == 7 {
-        fields::put_byte(file, draft::last_place(24), 1);
-        return length;
-    }
-    fields::put_u32(file, draft::TOTAL_AT, 2009);
     length
 }

@@ -1,12 +1,11 @@
 // The tallies: a lent list of counts. Places 0 to 63 count the recordings with that number as the answer.
 use crate::compared::case::Case;
-use crate::compared::case::Class;
 
 // How many places there are.
 pub(crate) const PLACES: usize = 96;
 
 // From here on: the recordings of each class as they were made.
-const CLASSES: u32 = 64;
+pub(crate) const CLASSES: u32 = 64;
 
 // The recordings that were damaged, the recordings in all, and the differences.
 pub(crate) const DAMAGED: u32 = 80;
@@ -30,19 +29,12 @@ pub(crate) fn count(scores: &mut [u32], place: u32) {
     }
 }
 
-// Where a class is counted.
-pub(crate) fn of_class(class: Class) -> u32 {
-    CLASSES + class.index() % 16
-}
-
 // One more recording with this answer.
 pub(crate) fn count_case(scores: &mut [u32], case: Case, number: u8) {
     count(scores, ALL);
     count(scores, number as u32 % 64);
     if case.damage != 0 {
-        count(scores, DAMAGED);
-        return;
+        return count(scores, DAMAGED);
     }
-    let class = case.class;
-    count(scores, of_class(class));
+    count(scores, CLASSES + case.class % 16);
 }

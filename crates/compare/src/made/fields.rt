@@ -14,45 +14,44 @@ pub(crate) fn put_byte(file: &mut [u8], at: usize, value: u8) {
     }
 }
 
-// The place so many bytes after another.
-fn after(at: usize, more: usize) -> usize {
-    std::num::wrapping_add_usize(at, more)
-}
-
 fn join_bytes(low: u8, high: u8) -> u32 {
     (low as u32) + (high as u32) * 256
 }
 
-fn join_halves(low: u32, high: u32) -> u32 {
-    std::num::wrapping_add_u32(low, high << 16)
-}
-
 pub(crate) fn u16_at(file: &[u8], at: usize) -> u32 {
-    join_bytes(byte_at(file, at), byte_at(file, after(at, 1)))
+    join_bytes(
+        byte_at(file, at),
+        byte_at(file, std::num::wrapping_add_usize(at, 1)),
+    )
 }
 
 pub(crate) fn u32_at(file: &[u8], at: usize) -> u32 {
-    join_halves(u16_at(file, at), u16_at(file, after(at, 2)))
+    let high = u16_at(file, std::num::wrapping_add_usize(at, 2));
+    std::num::wrapping_add_u32(u16_at(file, at), high << 16)
 }
 
 // The lower two bytes of a number.
 pub(crate) fn put_u16(file: &mut [u8], at: usize, value: u32) {
     put_byte(file, at, (value % 256) as u8);
-    put_byte(file, after(at, 1), (value / 256 % 256) as u8);
+    put_byte(
+        file,
+        std::num::wrapping_add_usize(at, 1),
+        (value / 256 % 256) as u8,
+    );
 }
 
 pub(crate) fn put_u32(file: &mut [u8], at: usize, value: u32) {
     put_u16(file, at, value);
-    put_u16(file, after(at, 2), value / 65_536);
+    put_u16(file, std::num::wrapping_add_usize(at, 2), value / 65_536);
 }
 
-// Drawn bytes everywhere.
-pub(crate) fn fill_drawn(file: &mut [u8], random: Random) {
+// So many drawn bytes.
+pub(crate) fn fill_drawn(file: &mut [u8], count: usize, random: Random) {
     let mut drawn = random;
     let mut at: usize = 0;
-    while at < file.len() {
+    while at < count {
         drawn = drawn.next();
-        file[at] = drawn.byte();
+        put_byte(file, at, drawn.byte());
         at += 1;
     }
 }

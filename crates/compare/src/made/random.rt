@@ -1,4 +1,5 @@
-// The generator of everything that is drawn: xorshift64, by shifts and exclusive-ors alone. It is fixed, so that each run draws the same.
+// The generator of everything that is drawn: xorshift64, by shifts and exclusive-ors alone. It is fixed, so that each
+// run draws the same.
 use crate::compared::case::Case;
 
 pub(crate) struct Random {
@@ -9,16 +10,12 @@ impl Random {
     // Any start but 0.
     const START: u64 = 0x9E37_79B9_7F4A_7C15;
 
-    pub(crate) fn new() -> Random {
-        Random {
-            state: Random::START,
-        }
-    }
+    // Nothing is drawn: each next state is this one too.
+    pub(crate) const NONE: Random = Random { state: 0 };
 
     // Each case has a start of its own, so that it can be made again by itself.
     pub(crate) fn of_case(case: Case) -> Random {
-        let class = case.class;
-        let place = (class.index() as u64) << 56;
+        let place = (case.class as u64) << 56;
         let state = Random::START ^ place ^ ((case.damage as u64) << 40) ^ (case.number as u64);
         Random { state }.next().next().next().next()
     }

@@ -1,5 +1,5 @@
 // What is printed at the end.
-use crate::compared::case::Class;
+use crate::compared::class;
 use crate::compared::scores;
 use crate::compared::scores::score;
 use crate::output::print::print;
@@ -12,16 +12,7 @@ use libc::STDOUT_FILENO;
 
 // How many recordings each class has, how many were damaged, how many had each number, and the sums.
 pub(crate) fn print_report(scores: &[u32]) {
-    print_class(Class::Samples, scores);
-    print_class(Class::Values, scores);
-    print_class(Class::Strings, scores);
-    print_class(Class::Limits, scores);
-    print_class(Class::Handovers, scores);
-    print_class(Class::Pairs, scores);
-    print_class(Class::Rooms, scores);
-    print_class(Class::Noise, scores);
-    print_class(Class::Extremes, scores);
-    print_class(Class::Meetings, scores);
+    print_classes(scores);
     print_line(b"damaged", score(scores, scores::DAMAGED));
     let missing = print_numbers(scores);
     print_line(b"recordings", score(scores, scores::ALL));
@@ -29,9 +20,13 @@ pub(crate) fn print_report(scores: &[u32]) {
     print_line(b"differences", score(scores, scores::DIFFERENCES));
 }
 
-fn print_class(class: Class, scores: &[u32]) {
-    show_class(class);
-    print_line(b"", score(scores, scores::of_class(class)));
+fn print_classes(scores: &[u32]) {
+    let mut class: u32 = 0;
+    while class < class::COUNT {
+        show_class(class);
+        print_line(b"", score(scores, scores::CLASSES + class % 16));
+        class += 1;
+    }
 }
 
 // The lines of refusals 1 to 9 and verdicts 20 to 37; gives how many of these numbers never occurred.
@@ -39,10 +34,8 @@ fn print_numbers(scores: &[u32]) -> u32 {
     let mut missing: u32 = 0;
     let mut index: u32 = 0;
     while index < 27 {
-        missing = std::num::wrapping_add_u32(
-            missing,
-            print_count(index, score(scores, number_of(index))),
-        );
+        let number = number_of(index);
+        missing = std::num::wrapping_add_u32(missing, print_count(number, score(scores, number)));
         index += 1;
     }
     missing
@@ -56,10 +49,10 @@ fn number_of(index: u32) -> u32 {
 }
 
 // 1 if there was none.
-fn print_count(index: u32, count: u32) -> u32 {
-    print_number(number_of(index));
+fn print_count(number: u32, count: u32) -> u32 {
+    print_number(number);
     print(b" ");
-    print_name(STDOUT_FILENO, (number_of(index) % 256) as u8);
+    print_name(STDOUT_FILENO, (number % 256) as u8);
     print_next(count);
     print(b"\n");
     if count == 0 {

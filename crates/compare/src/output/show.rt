@@ -1,6 +1,6 @@
 // A recording and an answer in print.
 use crate::compared::case::Case;
-use crate::compared::case::Class;
+use crate::compared::judged::Outcome;
 use crate::made::draft;
 use crate::made::fields;
 use crate::output::print::print;
@@ -8,8 +8,8 @@ use crate::output::print::print_next;
 use crate::output::print::print_number;
 use crate::output::print::print_word;
 
-// So many steps of a recording are shown.
-const MOST_STEPS: u32 = 300;
+// The steps in so many bytes of a recording are shown.
+const MOST_BYTES: usize = 1216;
 
 pub(crate) fn show_answer(number: u32, tick: u32, step: u32, count: u32) {
     print_next(number);
@@ -18,31 +18,44 @@ pub(crate) fn show_answer(number: u32, tick: u32, step: u32, count: u32) {
     print_next(count);
 }
 
-pub(crate) fn show_class(class: Class) {
+// What the two judges gave.
+pub(crate) fn show_outcome(outcome: Outcome) {
+    let answer = outcome.answer;
+    let finding = outcome.finding;
+    print(b"first judge");
+    show_answer(answer.number as u32, answer.tick, answer.step, answer.count);
+    print(b", second judge");
+    show_answer(finding.number, finding.tick, finding.step, finding.count);
+    show_named(b", bytes alike below", outcome.byte);
+    show_named(b", ledgers alike below", outcome.tick);
+}
+
+fn show_named(name: &[u8], number: usize) {
+    print(name);
+    print_next((number % 16_777_216) as u32);
+}
+
+pub(crate) fn show_class(class: u32) {
     print_word(
         b"samples;values;strings;limits;handovers;pairs;rooms;noise;extremes;meetings;",
-        class.index(),
+        class,
     );
 }
 
 // The case, the file's length, the header's fields, and the first steps as duration:lines.
 pub(crate) fn show_recording(file: &[u8], case: Case) {
     print(b": ");
-    let class = case.class;
-    show_class(class);
+    show_class(case.class);
     print_next(case.number);
-    print(b", damage");
-    print_next(case.damage);
-    print(b", length");
-    print_next((file.len() % 16_777_216) as u32);
-    print(b", header");
+    show_named(b", damage", case.damage as usize);
+    show_named(b", length", file.len());
     show_header(file);
-    print(b", steps");
-    show_steps(file, least(draft::step_count(file), MOST_STEPS));
+    show_steps(draft::part(file, MOST_BYTES));
     print(b"\n");
 }
 
 fn show_header(file: &[u8]) {
+    print(b", header");
     print_next(fields::u16_at(file, draft::VERSION_AT));
     print_next(fields::u16_at(file, draft::COUNT_AT));
     print_next(fields::u32_at(file, draft::OFFSET_AT));
@@ -50,14 +63,9 @@ fn show_header(file: &[u8]) {
     print_next(fields::u32_at(file, draft::LENGTH_AT));
 }
 
-fn least(left: u32, right: u32) -> u32 {
-    if left < right {
-        return left;
-    }
-    right
-}
-
-fn show_steps(file: &[u8], steps: u32) {
+fn show_steps(file: &[u8]) {
+    print(b", steps");
+    let steps = draft::steps_in(file.len());
     let mut step: u32 = 0;
     while step < steps {
         show_step(file, step);

@@ -7,7 +7,9 @@ use Rattle.compare.proofs.damage.compare_damaged.Statement.{statement}
 use Rattle.compare.proofs.damage.compare_damaged.Tie as tie
 
 abbrev Inv-loop : tie.InvT-loop
-Inv-loop file spare₀ case copies scores₀ damage₀ spare scores damage = (length spare ≡ length spare₀) × (length scores ≡ length scores₀)
+Inv-loop file spare₀ case copies scores₀ damage₀ spare scores damage =
+    (length spare ≡ length spare₀)
+    × (length scores ≡ length scores₀)
 
 abbrev μ-loop : tie.MeasureT-loop
 μ-loop file spare₀ case copies scores₀ damage₀ spare scores damage = copies - damage

@@ -7,17 +7,16 @@ use Rattle.compare.proofs.classes.pairs.put_pair.Statement.{statement}
 use Rattle.compare.proofs.classes.pairs.put_pair.Tie as tie
 
 abbrev Inv-loop : tie.InvT-loop
-Inv-loop file₀ count string₀ ticks₀ put₀ index₀ file string ticks put index =
+Inv-loop file₀ notes₀ count drawn₀ index₀ file notes drawn index =
     (length file ≡ length file₀)
-    × (length string ≡ length string₀)
-    × (length ticks ≡ length ticks₀)
+    × (length notes ≡ length notes₀)
 
 abbrev μ-loop : tie.MeasureT-loop
-μ-loop file₀ count string₀ ticks₀ put₀ index₀ file string ticks put index = count - index
+μ-loop file₀ notes₀ count drawn₀ index₀ file notes drawn index = count - index
 
 pub put-pair-spec : {M : Type 1} → statement M
 put-pair-spec =
     tie.close
-    (tie.spec Inv-loop μ-loop (λ c κs. search needs) (λ c. search needs) (λ c κs. search needs) (λ c. search needs)
-    (λ c. search needs) (λ c. search needs) (λ c κs. search needs) (λ c. search needs) (λ c. search needs) (λ c. search needs)
-    (λ c. search needs))
+    (tie.spec Inv-loop μ-loop (λ c κs. search needs) (λ c. search needs) (λ c. search needs) (λ c κs. search needs)
+    (λ c κs. search needs) (λ c. search needs) (λ c κs. search needs) (λ c. search needs) (λ c. search needs)
+    (λ c. search needs) (λ c κs. search needs) (λ c. search needs) (λ c. search needs) (λ c. search needs))

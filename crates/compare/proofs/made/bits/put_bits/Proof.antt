@@ -7,13 +7,13 @@ use Rattle.compare.proofs.made.bits.put_bits.Statement.{statement}
 use Rattle.compare.proofs.made.bits.put_bits.Tie as tie
 
 abbrev Inv-loop : tie.InvT-loop
-Inv-loop file₀ value sent₀ left₀ bit₀ file sent left bit = length file ≡ length file₀
+Inv-loop file₀ value drawn₀ left₀ bit₀ file drawn left bit = length file ≡ length file₀
 
 abbrev μ-loop : tie.MeasureT-loop
-μ-loop file₀ value sent₀ left₀ bit₀ file sent left bit = 8 - bit
+μ-loop file₀ value drawn₀ left₀ bit₀ file drawn left bit = 8 - bit
 
 pub put-bits-spec : {M : Type 1} → statement M
 put-bits-spec =
     tie.close
-    (tie.spec Inv-loop μ-loop (λ c. search needs) (λ c κs. search needs) (λ c κs. search needs) (λ c. search needs)
+    (tie.spec Inv-loop μ-loop (λ c. search needs) (λ c. search needs) (λ c κs. search needs) (λ c. search needs)
     (λ c. search needs) (λ c. search needs) (λ c. search needs) (λ c. search needs))

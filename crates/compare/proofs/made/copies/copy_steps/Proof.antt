@@ -7,10 +7,10 @@ use Rattle.compare.proofs.made.copies.copy_steps.Statement.{statement}
 use Rattle.compare.proofs.made.copies.copy_steps.Tie as tie
 
 abbrev Inv-loop : tie.InvT-loop
-Inv-loop source from to more file₀ copied₀ step₀ file copied step = length file ≡ length file₀
+Inv-loop source from to more file₀ step₀ file step = length file ≡ length file₀
 
 abbrev μ-loop : tie.MeasureT-loop
-μ-loop source from to more file₀ copied₀ step₀ file copied step = to - step
+μ-loop source from to more file₀ step₀ file step = to - step
 
 pub copy-steps-spec : {M : Type 1} → statement M
 copy-steps-spec =

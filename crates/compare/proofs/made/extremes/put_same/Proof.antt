@@ -7,10 +7,10 @@ use Rattle.compare.proofs.made.extremes.put_same.Statement.{statement}
 use Rattle.compare.proofs.made.extremes.put_same.Tie as tie
 
 abbrev Inv-loop : tie.InvT-loop
-Inv-loop file₀ steps duration put₀ step₀ file put step = length file ≡ length file₀
+Inv-loop file₀ steps duration step₀ file step = length file ≡ length file₀
 
 abbrev μ-loop : tie.MeasureT-loop
-μ-loop file₀ steps duration put₀ step₀ file put step = steps - step
+μ-loop file₀ steps duration step₀ file step = steps - step
 
 pub put-same-spec : {M : Type 1} → statement M
 put-same-spec =

@@ -3,21 +3,17 @@ use Prim.Native.Nat.{_-_}
 use mathlib.Core.Path.{_≡_}
 use borrow.Author.Needs.{needs}
 use lib.ListN.{length}
--- `made::fields::fill_drawn` is safe and ends. The loop keeps the file's length; the measure is the places that are left. Assumes nothing.
-use Prim.Native.Nat.{_-_}
-use mathlib.Core.Path.{_≡_}
-use lib.ListN.{length}
 use Rattle.compare.proofs.made.fields.fill_drawn.Statement.{statement}
 use Rattle.compare.proofs.made.fields.fill_drawn.Tie as tie
 
 abbrev Inv-loop : tie.InvT-loop
-Inv-loop file₀ drawn₀ at₀ file drawn at = length file ≡ length file₀
+Inv-loop file₀ count drawn₀ at₀ file drawn at = length file ≡ length file₀
 
 abbrev μ-loop : tie.MeasureT-loop
-μ-loop file₀ drawn₀ at₀ file drawn at = length file₀ - at
+μ-loop file₀ count drawn₀ at₀ file drawn at = count - at
 
 pub fill-drawn-spec : {M : Type 1} → statement M
 fill-drawn-spec =
     tie.close
-    (tie.spec Inv-loop μ-loop (λ c. search needs) (λ c κs. search needs) (λ c κs. search needs) (λ c. search needs)
+    (tie.spec Inv-loop μ-loop (λ c. search needs) (λ c κs. search needs) (λ c κs. search needs) (λ c κs. search needs)
     (λ c. search needs) (λ c. search needs) (λ c. search needs) (λ c. search needs) (λ c. search needs))

@@ -1,0 +1,20 @@
+-- `made::pieces::put_stretches` is safe and ends. The loop keeps the length; the stretches left are the measure. Assumes nothing.
+use Prim.Native.Nat.{_-_}
+use mathlib.Core.Path.{_≡_}
+use borrow.Author.Needs.{needs}
+use lib.ListN.{length}
+use Rattle.compare.proofs.made.pieces.put_stretches.Statement.{statement}
+use Rattle.compare.proofs.made.pieces.put_stretches.Tie as tie
+
+abbrev Inv-loop : tie.InvT-loop
+Inv-loop file₀ from to drawn₀ index₀ file drawn index = length file ≡ length file₀
+
+abbrev μ-loop : tie.MeasureT-loop
+μ-loop file₀ from to drawn₀ index₀ file drawn index = to - index
+
+pub put-stretches-spec : {M : Type 1} → statement M
+put-stretches-spec =
+    tie.close
+    (tie.spec Inv-loop μ-loop (λ c. search needs) (λ c. search needs) (λ c. search needs) (λ c. search needs)
+    (λ c κs. search needs) (λ c. search needs) (λ c. search needs) (λ c. search needs) (λ c. search needs)
+    (λ c. search needs))
