@@ -15,17 +15,13 @@ impl State {
         requires { ⌜ Countable self ⌝ }
         ensures { λ r. ⌜ r ≡ readIn limits self Phase.Start lines ⌝ }
     {
-        let now = self.tick;
         if lines.clk {
             if lines.data {
                 return self.go(Phase::FirstHold);
             }
-            if below(limits.presence, 0, now) {
-                return self.go(Phase::Start);
-            }
-            return self.stop(Fault::NoReceiver);
+            return self.go_below(limits.presence, 0, Phase::Start, Fault::NoReceiver);
         }
-        if now == 0 {
+        if self.tick == 0 {
             return self.stop(Fault::BadStart);
         }
         self.stop(Fault::OutOfTurn)

@@ -46,10 +46,8 @@ impl State {
     {
         let now = self.tick;
         if lines.clk {
-            if below(limits.set_up_most, since, now) {
-                return self.go(Phase::SetUp(mark, left, value, since, lines.data));
-            }
-            return self.stop(Fault::ClockStall);
+            let stay = Phase::SetUp(mark, left, value, since, lines.data);
+            return self.go_below(limits.set_up_most, since, stay, Fault::ClockStall);
         }
         if same(last, lines.data) {
             return self.go(Phase::Valid(mark, left, value, now, lines.data));
@@ -82,10 +80,8 @@ impl State {
             return self.go(Phase::SetUp(mark, left - 1, with_bit(value, bit), now, lines.data));
         }
         if same(bit, lines.data) {
-            if below(limits.valid_most, since, now) {
-                return self.go(Phase::Valid(mark, left, value, since, bit));
-            }
-            return self.stop(Fault::ClockStall);
+            let stay = Phase::Valid(mark, left, value, since, bit);
+            return self.go_below(limits.valid_most, since, stay, Fault::ClockStall);
         }
         self.stop(Fault::DataMoved)
     }

@@ -4,7 +4,6 @@ ghost use Rattle.transfer.specs.States.{readIn, Countable};
 use crate::limits::Limits;
 use crate::lines::Lines;
 use crate::offset::below;
-use crate::offset::up_to;
 use crate::phase::Phase;
 use crate::state::State;
 use crate::verdict::Fault;
@@ -17,21 +16,20 @@ impl State {
     {
         let now = self.tick;
         if lines.clk {
-            if below(limits.end_mark, since, now) {
-                return self.go(Phase::SetUp(false, 7, 0, now, lines.data));
-            }
-            return self.stop(Fault::OutOfTurn);
+            let bits = Phase::SetUp(false, 7, 0, now, lines.data);
+            return self.go_below(limits.end_mark, since, bits, Fault::OutOfTurn);
         }
         if lines.data {
-            if below(limits.end_mark, since, now) {
-                return self.stop(Fault::OutOfTurn);
-            }
-            return self.go(Phase::Acknowledgement(any, since, now));
+            let acknowledgement = Phase::Acknowledgement(any, since, now);
+            return self.go_from(limits.end_mark, since, Fault::OutOfTurn, acknowledgement);
         }
-        if below(limits.end_mark_latest, since, now) {
-            return self.go(Phase::ReadyForData(any, since));
-        }
-        self.stop(Fault::EndMarkNotAcknowledged)
+        let stay = Phase::ReadyForData(any, since);
+        self.go_below(
+            limits.end_mark_latest,
+            since,
+            stay,
+            Fault::EndMarkNotAcknowledged,
+        )
     }
 
     // F
@@ -46,20 +44,25 @@ impl State {
         requires { ⌜ Countable self ⌝ }
         ensures { λ r. ⌜ r ≡ readIn limits self (Phase.Acknowledgement any ready since) lines ⌝ }
     {
-        let now = self.tick;
         if lines.clk {
             return self.stop(Fault::OutOfTurn);
         }
         if lines.data {
-            if below(limits.acknowledge_most, since, now) {
-                return self.go(Phase::Acknowledgement(any, ready, since));
-            }
-            return self.stop(Fault::AcknowledgementLong);
+            let stay = Phase::Acknowledgement(any, ready, since);
+            return self.go_below(
+                limits.acknowledge_most,
+                since,
+                stay,
+                Fault::AcknowledgementLong,
+            );
         }
-        if below(limits.acknowledge_least, since, now) {
-            return self.stop(Fault::AcknowledgementShort);
-        }
-        self.go(Phase::Acknowledged(any, ready, now))
+        let acknowledged = Phase::Acknowledged(any, ready, self.tick);
+        self.go_from(
+            limits.acknowledge_least,
+            since,
+            Fault::AcknowledgementShort,
+            acknowledged,
+        )
     }
 
     // G; the 512 goes on counting from the first tick of D
@@ -76,10 +79,8 @@ impl State {
     {
         let now = self.tick;
         if lines.clk {
-            if up_to(limits.response, since, now) {
-                return self.go(Phase::SetUp(true, 7, 0, now, lines.data));
-            }
-            return self.stop(Fault::LateClock);
+            let bits = Phase::SetUp(true, 7, 0, now, lines.data);
+            return self.go_up_to(limits.response, since, bits, Fault::LateClock);
         }
         if lines.data {
             return self.stop(Fault::OutOfTurn);

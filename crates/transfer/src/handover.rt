@@ -4,7 +4,6 @@ ghost use Rattle.transfer.specs.Phases.{handover};
 ghost use Rattle.transfer.specs.States.{follow, readIn, Countable};
 use crate::limits::Limits;
 use crate::lines::Lines;
-use crate::offset::below;
 use crate::offset::up_to;
 use crate::phase::Byte;
 use crate::phase::Phase;
@@ -52,10 +51,8 @@ impl State {
                     mark,
                 ));
             }
-            if below(limits.take_latest, since, now) {
-                return self.go(Phase::Open(mark, value, since, let_go));
-            }
-            return self.stop(Fault::ReceiverTimeout);
+            let stay = Phase::Open(mark, value, since, let_go);
+            return self.go_below(limits.take_latest, since, stay, Fault::ReceiverTimeout);
         }
         self.stop(Fault::OutOfTurn)
     }
@@ -77,10 +74,8 @@ impl State {
             if lines.data {
                 return self.go(Phase::Carried(mark, value, since));
             }
-            if up_to(limits.keep_most, since, now) {
-                return self.go(Phase::Open(mark, value, since, now));
-            }
-            return self.stop(Fault::OutOfTurn);
+            let open = Phase::Open(mark, value, since, now);
+            return self.go_up_to(limits.keep_most, since, open, Fault::OutOfTurn);
         }
         if lines.data {
             if up_to(limits.between_bytes, since, now) {

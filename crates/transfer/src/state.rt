@@ -1,9 +1,13 @@
 // The state of the reading, and one tick of it.
 ghost use mathlib.Core.Path.{_≡_};
+ghost use Rattle.transfer.specs.Choice.{if_then_else_};
+ghost use Rattle.transfer.specs.Offsets.{below, upTo};
 ghost use Rattle.transfer.specs.Phases.{Go, Hand, Stop};
 ghost use Rattle.transfer.specs.States.{follow, readIn, nextState, firstState, isDecided, decisionOf, Countable};
 use crate::limits::Limits;
 use crate::lines::Lines;
+use crate::offset::below;
+use crate::offset::up_to;
 use crate::phase::Byte;
 use crate::phase::Phase;
 use crate::verdict::Decision;
@@ -71,6 +75,39 @@ impl State {
             count: self.count,
             handed,
         }
+    }
+
+    // The tick leads on into a phase if it is fewer than `limit` ticks after `since`, and otherwise decides.
+    pub(crate) fn go_below(self, limit: u32, since: u32, phase: Phase, fault: Fault) -> State
+        requires { ⌜ Countable self ⌝ }
+        ensures { λ r. ⌜ r ≡ follow self (if below limit since (self .tick) then Go phase else Stop fault) ⌝ }
+    {
+        if below(limit, since, self.tick) {
+            return self.go(phase);
+        }
+        self.stop(fault)
+    }
+
+    // The other way round: it decides if it is fewer than `limit` ticks after `since`, and otherwise leads on.
+    pub(crate) fn go_from(self, limit: u32, since: u32, fault: Fault, phase: Phase) -> State
+        requires { ⌜ Countable self ⌝ }
+        ensures { λ r. ⌜ r ≡ follow self (if below limit since (self .tick) then Stop fault else Go phase) ⌝ }
+    {
+        if below(limit, since, self.tick) {
+            return self.stop(fault);
+        }
+        self.go(phase)
+    }
+
+    // The tick leads on into a phase if it is at most `limit` ticks after `since`, and otherwise decides.
+    pub(crate) fn go_up_to(self, limit: u32, since: u32, phase: Phase, fault: Fault) -> State
+        requires { ⌜ Countable self ⌝ }
+        ensures { λ r. ⌜ r ≡ follow self (if upTo limit since (self .tick) then Go phase else Stop fault) ⌝ }
+    {
+        if up_to(limit, since, self.tick) {
+            return self.go(phase);
+        }
+        self.stop(fault)
     }
 
     // The rows of the phase that the state is in, for a tick with ATN released.

@@ -5,11 +5,8 @@ use borrow.Author.Needs.{needs}
 use Rattle.transfer.proofs.state.State.acknowledged.Statement.{statement}
 use Rattle.transfer.proofs.state.State.acknowledged.Tie as tie
 
-up-to-requires : tie.Need-up-to-requires
-up-to-requires c κs = search needs
-
-go-requires : tie.Need-go-requires
-go-requires c κs = search needs
+go-up-to-requires : tie.Need-go-up-to-requires
+go-up-to-requires c κs = search needs
 
 returns : tie.Need-returns
 unfolding next
@@ -22,52 +19,42 @@ returns-2 : tie.Need-returns-2
 unfolding next
 returns-2 c = search tests
 
-stop-requires-2 : tie.Need-stop-requires-2
-stop-requires-2 c κs = search needs
+below-requires : tie.Need-below-requires
+below-requires c κs = search needs
+
+go-requires : tie.Need-go-requires
+go-requires c κs = search needs
 
 returns-3 : tie.Need-returns-3
 unfolding next
 returns-3 c = search tests
 
-below-requires : tie.Need-below-requires
-below-requires c κs = search needs
-
-go-requires-2 : tie.Need-go-requires-2
-go-requires-2 c κs = search needs
+stop-requires-2 : tie.Need-stop-requires-2
+stop-requires-2 c κs = search needs
 
 returns-4 : tie.Need-returns-4
 unfolding next
-returns-4 c = search tests
+returns-4 c = search (tests, c .before .if4 .taken)
 
 stop-requires-3 : tie.Need-stop-requires-3
 stop-requires-3 c κs = search needs
 
 returns-5 : tie.Need-returns-5
 unfolding next
-returns-5 c = search (tests, c .before .if5 .taken)
-
-stop-requires-4 : tie.Need-stop-requires-4
-stop-requires-4 c κs = search needs
-
-returns-6 : tie.Need-returns-6
-unfolding next
-returns-6 c = search (tests, c .before .if5 .left)
+returns-5 c = search (tests, c .before .if4 .left)
 
 pub acknowledged-spec : {M : Type 1} → statement M
 acknowledged-spec =
     tie.close
     (tie.spec
-    up-to-requires
-    go-requires
+    go-up-to-requires
     returns
     stop-requires
     returns-2
-    stop-requires-2
-    returns-3
     below-requires
-    go-requires-2
+    go-requires
+    returns-3
+    stop-requires-2
     returns-4
     stop-requires-3
-    returns-5
-    stop-requires-4
-    returns-6)
+    returns-5)

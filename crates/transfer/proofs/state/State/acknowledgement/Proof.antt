@@ -12,53 +12,21 @@ returns : tie.Need-returns
 unfolding next
 returns c = search tests
 
-below-requires : tie.Need-below-requires
-below-requires c κs = search needs
-
-go-requires : tie.Need-go-requires
-go-requires c κs = search needs
+go-below-requires : tie.Need-go-below-requires
+go-below-requires c κs = search needs
 
 returns-2 : tie.Need-returns-2
 unfolding next
 returns-2 c = search tests
 
-stop-requires-2 : tie.Need-stop-requires-2
-stop-requires-2 c κs = search needs
+go-from-requires : tie.Need-go-from-requires
+go-from-requires c κs = search needs
 
 returns-3 : tie.Need-returns-3
 unfolding next
 returns-3 c = search tests
 
-below-requires-2 : tie.Need-below-requires-2
-below-requires-2 c κs = search needs
-
-stop-requires-3 : tie.Need-stop-requires-3
-stop-requires-3 c κs = search needs
-
-returns-4 : tie.Need-returns-4
-unfolding next
-returns-4 c = search tests
-
-go-requires-2 : tie.Need-go-requires-2
-go-requires-2 c κs = search needs
-
-returns-5 : tie.Need-returns-5
-unfolding next
-returns-5 c = search tests
-
 pub acknowledgement-spec : {M : Type 1} → statement M
 acknowledgement-spec =
     tie.close
-    (tie.spec
-    stop-requires
-    returns
-    below-requires
-    go-requires
-    returns-2
-    stop-requires-2
-    returns-3
-    below-requires-2
-    stop-requires-3
-    returns-4
-    go-requires-2
-    returns-5)
+    (tie.spec stop-requires returns go-below-requires returns-2 go-from-requires returns-3)

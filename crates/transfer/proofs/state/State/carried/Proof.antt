@@ -17,15 +17,15 @@ returns : tie.Need-returns
 unfolding next
 returns c = search tests
 
-up-to-requires : tie.Need-up-to-requires
-up-to-requires c κs = search needs
-
-go-requires-2 : tie.Need-go-requires-2
-go-requires-2 c κs = search needs
+go-up-to-requires : tie.Need-go-up-to-requires
+go-up-to-requires c κs = search needs
 
 returns-2 : tie.Need-returns-2
 unfolding next
 returns-2 c = search tests
+
+up-to-requires : tie.Need-up-to-requires
+up-to-requires c κs = search needs
 
 stop-requires : tie.Need-stop-requires
 stop-requires c κs = search needs
@@ -34,39 +34,29 @@ returns-3 : tie.Need-returns-3
 unfolding next
 returns-3 c = search tests
 
-up-to-requires-2 : tie.Need-up-to-requires-2
-up-to-requires-2 c κs = search needs
+add-t15 : tie.Need-add-t15
+unfolding upTo
+add-t15 c = let a = c .before .before .before .before .args
+    in omega (arith, leb-false (a .self .tick) (a .since + a .limits .«between_bytes») (sym (c .before .up-to .ensures) ∙ c .if4 .left))
 
-stop-requires-2 : tie.Need-stop-requires-2
-stop-requires-2 c κs = search needs
+add-t16 : tie.Need-add-t16
+unfolding upTo
+add-t16 c = let a = c .before .before .before .before .args
+    in omega (arith, leb-false (a .self .tick) (a .since + a .limits .«between_bytes») (sym (c .before .up-to .ensures) ∙ c .if4 .left))
+
+hand-requires : tie.Need-hand-requires
+hand-requires c κs = search needs
 
 returns-4 : tie.Need-returns-4
 unfolding next
 returns-4 c = search tests
 
-add-t16 : tie.Need-add-t16
-unfolding upTo
-add-t16 c = let a = c .before .before .before .before .args
-    in omega (arith, leb-false (a .self .tick) (a .since + a .limits .«between_bytes») (sym (c .before .up-to2 .ensures) ∙ c .if5 .left))
-
-add-t17 : tie.Need-add-t17
-unfolding upTo
-add-t17 c = let a = c .before .before .before .before .args
-    in omega (arith, leb-false (a .self .tick) (a .since + a .limits .«between_bytes») (sym (c .before .up-to2 .ensures) ∙ c .if5 .left))
-
-hand-requires : tie.Need-hand-requires
-hand-requires c κs = search needs
+stop-requires-2 : tie.Need-stop-requires-2
+stop-requires-2 c κs = search needs
 
 returns-5 : tie.Need-returns-5
 unfolding next
 returns-5 c = search tests
-
-stop-requires-3 : tie.Need-stop-requires-3
-stop-requires-3 c κs = search needs
-
-returns-6 : tie.Need-returns-6
-unfolding next
-returns-6 c = search tests
 
 pub carried-spec : {M : Type 1} → statement M
 carried-spec =
@@ -74,17 +64,14 @@ carried-spec =
     (tie.spec
     go-requires
     returns
-    up-to-requires
-    go-requires-2
+    go-up-to-requires
     returns-2
+    up-to-requires
     stop-requires
     returns-3
-    up-to-requires-2
-    stop-requires-2
-    returns-4
+    add-t15
     add-t16
-    add-t17
     hand-requires
-    returns-5
-    stop-requires-3
-    returns-6)
+    returns-4
+    stop-requires-2
+    returns-5)

@@ -12,11 +12,8 @@ returns : tie.Need-returns
 unfolding next
 returns c = search tests
 
-below-requires : tie.Need-below-requires
-below-requires c κs = search needs
-
-go-requires-2 : tie.Need-go-requires-2
-go-requires-2 c κs = search needs
+go-below-requires : tie.Need-go-below-requires
+go-below-requires c κs = search needs
 
 returns-2 : tie.Need-returns-2
 unfolding next
@@ -29,23 +26,6 @@ returns-3 : tie.Need-returns-3
 unfolding next
 returns-3 c = search tests
 
-stop-requires-2 : tie.Need-stop-requires-2
-stop-requires-2 c κs = search needs
-
-returns-4 : tie.Need-returns-4
-unfolding next
-returns-4 c = search tests
-
 pub open-spec : {M : Type 1} → statement M
 open-spec =
-    tie.close
-    (tie.spec
-    go-requires
-    returns
-    below-requires
-    go-requires-2
-    returns-2
-    stop-requires
-    returns-3
-    stop-requires-2
-    returns-4)
+    tie.close (tie.spec go-requires returns go-below-requires returns-2 stop-requires returns-3)

@@ -5,73 +5,28 @@ use borrow.Author.Needs.{needs}
 use Rattle.transfer.proofs.state.State.ready_for_data.Statement.{statement}
 use Rattle.transfer.proofs.state.State.ready_for_data.Tie as tie
 
-below-requires : tie.Need-below-requires
-below-requires c κs = search needs
-
-go-requires : tie.Need-go-requires
-go-requires c κs = search needs
+go-below-requires : tie.Need-go-below-requires
+go-below-requires c κs = search needs
 
 returns : tie.Need-returns
 unfolding next
 returns c = search tests
 
-stop-requires : tie.Need-stop-requires
-stop-requires c κs = search needs
+go-from-requires : tie.Need-go-from-requires
+go-from-requires c κs = search needs
 
 returns-2 : tie.Need-returns-2
 unfolding next
 returns-2 c = search tests
 
-below-requires-2 : tie.Need-below-requires-2
-below-requires-2 c κs = search needs
-
-stop-requires-2 : tie.Need-stop-requires-2
-stop-requires-2 c κs = search needs
+go-below-requires-2 : tie.Need-go-below-requires-2
+go-below-requires-2 c κs = search needs
 
 returns-3 : tie.Need-returns-3
 unfolding next
 returns-3 c = search tests
 
-go-requires-2 : tie.Need-go-requires-2
-go-requires-2 c κs = search needs
-
-returns-4 : tie.Need-returns-4
-unfolding next
-returns-4 c = search tests
-
-below-requires-3 : tie.Need-below-requires-3
-below-requires-3 c κs = search needs
-
-go-requires-3 : tie.Need-go-requires-3
-go-requires-3 c κs = search needs
-
-returns-5 : tie.Need-returns-5
-unfolding next
-returns-5 c = search tests
-
-stop-requires-3 : tie.Need-stop-requires-3
-stop-requires-3 c κs = search needs
-
-returns-6 : tie.Need-returns-6
-unfolding next
-returns-6 c = search tests
-
 pub ready-for-data-spec : {M : Type 1} → statement M
 ready-for-data-spec =
     tie.close
-    (tie.spec
-    below-requires
-    go-requires
-    returns
-    stop-requires
-    returns-2
-    below-requires-2
-    stop-requires-2
-    returns-3
-    go-requires-2
-    returns-4
-    below-requires-3
-    go-requires-3
-    returns-5
-    stop-requires-3
-    returns-6)
+    (tie.spec go-below-requires returns go-from-requires returns-2 go-below-requires-2 returns-3)

@@ -5,51 +5,38 @@ use borrow.Author.Needs.{needs}
 use Rattle.transfer.proofs.state.State.set_up.Statement.{statement}
 use Rattle.transfer.proofs.state.State.set_up.Tie as tie
 
-below-requires : tie.Need-below-requires
-below-requires c κs = search needs
-
-go-requires : tie.Need-go-requires
-go-requires c κs = search needs
+go-below-requires : tie.Need-go-below-requires
+go-below-requires c κs = search needs
 
 returns : tie.Need-returns
 unfolding next
 returns c = search tests
 
-stop-requires : tie.Need-stop-requires
-stop-requires c κs = search needs
+same-requires : tie.Need-same-requires
+same-requires c κs = search needs
+
+go-requires : tie.Need-go-requires
+go-requires c κs = search needs
 
 returns-2 : tie.Need-returns-2
 unfolding next
 returns-2 c = search tests
 
-same-requires : tie.Need-same-requires
-same-requires c κs = search needs
-
-go-requires-2 : tie.Need-go-requires-2
-go-requires-2 c κs = search needs
+stop-requires : tie.Need-stop-requires
+stop-requires c κs = search needs
 
 returns-3 : tie.Need-returns-3
 unfolding next
 returns-3 c = search tests
 
-stop-requires-2 : tie.Need-stop-requires-2
-stop-requires-2 c κs = search needs
-
-returns-4 : tie.Need-returns-4
-unfolding next
-returns-4 c = search tests
-
 pub set-up-spec : {M : Type 1} → statement M
 set-up-spec =
     tie.close
     (tie.spec
-    below-requires
-    go-requires
+    go-below-requires
     returns
-    stop-requires
-    returns-2
     same-requires
-    go-requires-2
-    returns-3
-    stop-requires-2
-    returns-4)
+    go-requires
+    returns-2
+    stop-requires
+    returns-3)

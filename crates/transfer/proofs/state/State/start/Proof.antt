@@ -12,11 +12,8 @@ returns : tie.Need-returns
 unfolding next
 returns c = search tests
 
-below-requires : tie.Need-below-requires
-below-requires c κs = search needs
-
-go-requires-2 : tie.Need-go-requires-2
-go-requires-2 c κs = search needs
+go-below-requires : tie.Need-go-below-requires
+go-below-requires c κs = search needs
 
 returns-2 : tie.Need-returns-2
 unfolding next
@@ -36,25 +33,15 @@ returns-4 : tie.Need-returns-4
 unfolding next
 returns-4 c = search tests
 
-stop-requires-3 : tie.Need-stop-requires-3
-stop-requires-3 c κs = search needs
-
-returns-5 : tie.Need-returns-5
-unfolding next
-returns-5 c = search tests
-
 pub start-spec : {M : Type 1} → statement M
 start-spec =
     tie.close
     (tie.spec
     go-requires
     returns
-    below-requires
-    go-requires-2
+    go-below-requires
     returns-2
     stop-requires
     returns-3
     stop-requires-2
-    returns-4
-    stop-requires-3
-    returns-5)
+    returns-4)

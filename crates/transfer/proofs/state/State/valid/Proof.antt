@@ -25,8 +25,8 @@ returns-2 : tie.Need-returns-2
 unfolding next
 returns-2 c = search (tests, ← c .before .«with-bit» .ensures)
 
-sub-t15 : tie.Need-sub-t15
-sub-t15 c = search needs
+sub-t16 : tie.Need-sub-t16
+sub-t16 c = search needs
 
 with-bit-requires-2 : tie.Need-with-bit-requires-2
 with-bit-requires-2 c κs = search needs
@@ -41,11 +41,8 @@ returns-3 c = search (tests, ← c .before .«with-bit2» .ensures)
 same-requires : tie.Need-same-requires
 same-requires c κs = search needs
 
-below-requires-2 : tie.Need-below-requires-2
-below-requires-2 c κs = search needs
-
-go-requires-2 : tie.Need-go-requires-2
-go-requires-2 c κs = search needs
+go-below-requires : tie.Need-go-below-requires
+go-below-requires c κs = search needs
 
 returns-4 : tie.Need-returns-4
 unfolding next
@@ -58,13 +55,6 @@ returns-5 : tie.Need-returns-5
 unfolding next
 returns-5 c = search tests
 
-stop-requires-3 : tie.Need-stop-requires-3
-stop-requires-3 c κs = search needs
-
-returns-6 : tie.Need-returns-6
-unfolding next
-returns-6 c = search tests
-
 pub valid-spec : {M : Type 1} → statement M
 valid-spec =
     tie.close
@@ -75,15 +65,12 @@ valid-spec =
     with-bit-requires
     handover-requires
     returns-2
-    sub-t15
+    sub-t16
     with-bit-requires-2
     go-requires
     returns-3
     same-requires
-    below-requires-2
-    go-requires-2
+    go-below-requires
     returns-4
     stop-requires-2
-    returns-5
-    stop-requires-3
-    returns-6)
+    returns-5)
