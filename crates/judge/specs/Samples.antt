@@ -9,7 +9,7 @@ use Rattle.answer.specs.declared.Answer.{Answer}
 use Rattle.recording.specs.FileOf.{headerBytes, fileOf}
 use Rattle.recording.specs.declared.step.Step.{Step}
 use Rattle.transfer.specs.Limits.{standardLimits}
-use Rattle.transfer.specs.Readings.{s1 as s1Spans}
+use Rattle.transfer.specs.SampleSpans.{s1 as s1Spans}
 use Rattle.transfer.specs.Spans.{ticks}
 use Rattle.judge.specs.Judged.{Judged, leaves, tickLines, judged}
 

@@ -1,2 +1,1 @@
-// No code: what is stated of single recordings beside the definitions is computed here, so that a change of the code below does not
-// wait for it.
+// No code: single recordings are computed here, so that an edit of the crates below does not wait for them.

@@ -18,7 +18,7 @@ use Rattle.transfer.specs.Rules.{BitRule, FrameRules, SendingRules, Plan
 use Rattle.transfer.specs.Pair.{values}
 use Rattle.transfer.specs.Demand3.{CompleteWith}
 use Rattle.transfer.specs.Spans.{ticks}
-use Rattle.transfer.specs.Readings.{s1}
+use Rattle.transfer.specs.SampleSpans.{s1}
 use Rattle.transfer.specs.Facts.{OnlyCompleteIs20, AllBytes, SomeBytes, PairSendsBytes, S1Explained, oneTick, byte80}
 use Rattle.transfer.specs.Facts.{TwoPairs}
 use Rattle.transfer.specs.Verdicts.{verdictNumber}

@@ -8,7 +8,7 @@ use Rattle.transfer.specs.Limits.{standardLimits}
 use Rattle.transfer.specs.Parties.{Bit, last, Plan, planBytes}
 use Rattle.transfer.specs.Pair.{SenderPulls, Pair, senderTrack, receiverTrack, gives}
 use Rattle.transfer.specs.Demand3.{Explains, Explained}
-use Rattle.transfer.specs.Readings.{s1}
+use Rattle.transfer.specs.SampleSpans.{s1}
 use Rattle.transfer.specs.Spans.{ticks}
 use Rattle.transfer.specs.Verdicts.{verdictNumber}
 use Rattle.transfer.specs.declared.limits.Limits.{Limits}

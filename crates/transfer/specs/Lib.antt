@@ -10,11 +10,11 @@ pub mod Outcome
 pub mod TickLaws
 pub mod Idle
 pub mod Spans
+pub mod SampleSpans
 pub mod Parties
 pub mod Rules
 pub mod Pair
 pub mod Shown
 pub mod Demand3
 pub mod Room
-pub mod Readings
 pub mod Facts

@@ -1,41 +1,20 @@
 -- Where two rows of document 01 meet: tick lists whose outcomes show how it is read there, and on which tick each time falls.
 -- docs/DECISIONS.md gives the reasons.
-use Prim.Native.Nat.{ℕ, _+_}
+use Prim.Native.Nat.{ℕ}
 use mathlib.Core.Path.{_≡_}
 use mathlib.Core.List.{List, [], _∷_, _++_}
 use mathlib.Core.Bool.{Bool, true, _&&_}
 use lib.Dec.{eqb}
 use lib.ListN.{length}
-use Rattle.transfer.specs.Lines.{linesOf}
 use Rattle.transfer.specs.Limits.{standardLimits}
 use Rattle.transfer.specs.Outcome.{outcome}
+use Rattle.transfer.specs.SampleSpans.{_∶_, opening, bits, till41, s1}
 use Rattle.transfer.specs.Spans.{Span, ticks}
 use Rattle.transfer.specs.Verdicts.{verdictNumber}
 
--- `d ∶ b` is a span of duration d that shows the line byte b: 1 is ATN, 2 CLK, 4 DATA.
-infix 90 _∶_
-abbrev pub _∶_ : ℕ → ℕ → Span
-d ∶ b = record { duration = d; lines = linesOf b }
-
--- Up to the bits of a first and last byte: the ticks of the gap, those of the acknowledgement, and 40 more.
-abbrev pub opening : (gap acknowledgement : ℕ) → List Span
-opening gap acknowledgement = 200 ∶ 6 ∷ 50 ∶ 4 ∷ gap ∶ 0 ∷ acknowledgement ∶ 4 ∷ 40 ∶ 0 ∷ []
-
--- Bits that show these DATA, 0 or 4, with a set-up of 70 and a valid time of 60 ticks each.
-abbrev pub bits : List ℕ → List Span
-bits [] = []
-bits (d ∷ ds) = 70 ∶ (2 + d) ∷ 60 ∶ d ∷ bits ds
-
--- The byte 0x41 and the byte 0x80, from tick 0 to the CLK pull after bit 8, which is tick 1,630.
-abbrev pub till41 : List Span
-till41 = opening 220 80 ++ bits (4 ∷ 0 ∷ 0 ∷ 0 ∷ 0 ∷ 0 ∷ 4 ∷ 0 ∷ [])
-
+-- The byte 0x80, from tick 0 to the CLK pull after bit 8, which is tick 1,630.
 abbrev pub till80 : List Span
 till80 = opening 220 80 ++ bits (0 ∷ 0 ∷ 0 ∷ 0 ∷ 0 ∷ 0 ∷ 0 ∷ 4 ∷ [])
-
--- S1 of document 01, "Sample recordings".
-abbrev pub s1 : List Span
-s1 = till41 ++ (30 ∶ 2 ∷ 200 ∶ 6 ∷ 50 ∶ 4 ∷ 100 ∶ 0 ∷ [])
 
 -- The byte 0x41 as a first byte that is not the last.
 abbrev pub plain41 : List Span
