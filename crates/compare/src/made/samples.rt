@@ -43,17 +43,17 @@ pub(crate) fn put_sample(file: &mut [u8], sample: u32) {
     put_carried(file, 0, 1, 99 + (sample - 15) % 2);
 }
 
-// No steps; written from no bytes; (1,0) for 257 ticks; (1,0) for 256 ticks, then (1,1) in the last one.
 fn put_few(file: &mut [u8], sample: u32) {
     match sample {
+        // No steps.
         11 => {}
         12 => {
             writer::write(&[], file);
         }
+        13 => add(file, 257, CLK),
         _ => {
-            let last = sample % 13;
-            add(file, 257 - last, CLK);
-            add(file, last, BOTH);
+            add(file, 256, CLK);
+            add(file, 1, BOTH);
         }
     }
 }
