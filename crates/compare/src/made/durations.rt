@@ -3,9 +3,9 @@ const AROUND: u32 = 6;
 
 pub(crate) const LIMITS: u32 = 13;
 
-// 3 stands for the least durations, and 212 for 512 ticks after a gap of 220 and an acknowledgement of 80; 230 and
-// 350 are beyond one limit and before the next.
-const AT: [u32; 13] = [3, 20, 60, 100, 150, 200, 212, 230, 256, 290, 350, 512, 1000];
+// 2 stands for the least durations, of which 0 leaves the step out, and 212 for 512 ticks after a gap of 220 and an
+// acknowledgement of 80; 230 and 350 are beyond one limit and before the next.
+const AT: [u32; 13] = [2, 20, 60, 100, 150, 200, 212, 230, 256, 290, 350, 512, 1000];
 
 pub(crate) const DURATIONS: u32 = LIMITS * AROUND;
 
