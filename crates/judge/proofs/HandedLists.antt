@@ -11,9 +11,9 @@ use borrow.Author.Tests.{eqb-true, eqb-false}
 use Rattle.answer.specs.Lent.{_over_}
 use Rattle.recording.specs.Choice.{if_then_else_}
 use Rattle.transfer.specs.Pair.{values}
-use Rattle.transfer.specs.TickLaws.{OneTick}
+use Rattle.reader.specs.TickLaws.{OneTick}
 use Rattle.transfer.specs.declared.phase.Byte.{Byte}
-use Rattle.transfer.specs.declared.state.State.{State}
+use Rattle.reader.specs.declared.state.State.{State}
 use Rattle.judge.specs.Judged.{twoTicks}
 use Rattle.judge.specs.Reading.{withByte, withTicks}
 

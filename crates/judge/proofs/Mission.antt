@@ -21,7 +21,11 @@ use Rattle.recording.proofs.StepLaws.{steps-count, total-counts}
 use Rattle.transfer.specs.Demand3.{Consistent}
 use Rattle.transfer.specs.Limits.{standardLimits}
 use Rattle.transfer.specs.Lines.{linesOf}
-use Rattle.transfer.specs.Outcome.{Outcome, stateAfter, handedOver, outcome}
+use Rattle.transfer.specs.Outcome.{Outcome, run, outcome}
+use Rattle.transfer.specs.declared.phase.Phase.the-variants.{End}
+use Rattle.reader.specs.States.{firstState}
+use Rattle.reader.specs.After.{stateAfter}
+use Rattle.reader.proofs.Outcomes.{outcome-states}
 use Rattle.transfer.specs.Pair.{values}
 use Rattle.transfer.specs.Verdicts.{verdictNumber}
 use Rattle.transfer.specs.declared.limits.Limits.{Limits}
@@ -80,11 +84,16 @@ module _ (L : Limits) (times : Consistent L) (file bytes ledger : List ℕ) wher
 
   -- 20.
   finishes : Kind → got .answer .number ≡ 20 → Finished L file bytes ledger (got .answer .tick)
-  unfolding outcome
   finishes (refusal number step low is) h = absurd (no-verdict number step low is (omega arith))
   finishes (verdict form is) h =
+      let e = outcome-states L (tickList file) in
+      let complete = ap (λ (o : Outcome). o .decision .verdict) (sym e) ∙ only-complete-is-20 _ (is-number is ∙ h) in
       subst⁻¹ (λ (j : Judged). Finished L file bytes ledger (j .answer .tick)) is
-      (record { form = form; in-end = complete-ends _ _ (only-complete-is-20 _ (is-number is ∙ h)) })
+      (record {
+        form = form;
+        in-end =
+            subst⁻¹ (λ (o : Outcome). stateAfter L firstState (tickList file) .phase ≡ End (o .decision .tick)) e (complete-ends _ _ complete);
+      })
 
   sends-a-byte : Kind → got .answer .number ≡ 20 → 1 ≤ got .answer .count
   sends-a-byte (refusal number step low is) h = absurd (no-verdict number step low is (omega arith))
@@ -101,7 +110,7 @@ module _ (L : Limits) (times : Consistent L) (file bytes ledger : List ℕ) wher
 
   cuts : (good : GoodWithRoom file bytes ledger) → good .steps ≡ 0
       → got ≡ leaves (record { number = 22; tick = 0; step = 0; count = 0 }) bytes ledger
-  unfolding ticks stateAfter handedOver outcome stepHolding twoTicks
+  unfolding ticks run stepHolding twoTicks
   cuts g e =
       is-verdict L file bytes ledger (g .steps) (good-form file (g .steps) .1 (g .good-form)) (g .byte-room) (g .ledger-room)
       ∙ ap (λ (steps : List Step). verdictLeaves steps (outcome L (tickLines steps)) bytes ledger)

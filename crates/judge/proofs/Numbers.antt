@@ -6,7 +6,7 @@ use Rattle.recording.specs.Refusals.{refusalNumber}
 use Rattle.recording.specs.declared.refusal.Refusal.{Refusal}
 use Rattle.recording.specs.declared.refusal.Refusal.the-variants.{ShortFile, WrongVersion, TooManySteps, WrongOffset}
 use Rattle.recording.specs.declared.refusal.Refusal.the-variants.{WrongLength, ZeroDuration, StrayBits, WrongTotal}
-use Rattle.transfer.specs.States.{decisionOf}
+use Rattle.transfer.specs.Moves.{decisionOf}
 use Rattle.transfer.specs.Verdicts.{verdictNumber}
 use Rattle.transfer.specs.declared.phase.Phase.{Phase}
 use Rattle.transfer.specs.declared.phase.Phase.the-variants.{Start, FirstHold, Hold, ReadyToSend, ReadyForData}

@@ -11,15 +11,18 @@ use Rattle.recording.specs.Ticks.{stepsFrom}
 use Rattle.recording.specs.declared.form.Form.the-variants.{Good}
 use Rattle.recording.specs.declared.step.Step.{Step}
 use Rattle.recording.proofs.GoodFormLaws.{good-form}
-use Rattle.transfer.specs.Outcome.{handedOver, outcome}
+use Rattle.reader.specs.After.{handedOver}
+use Rattle.transfer.specs.Outcome.{Outcome, outcome}
 use Rattle.transfer.specs.Pair.{values}
-use Rattle.transfer.specs.States.{firstState, decisionOf}
+use Rattle.reader.specs.States.{firstState}
+use Rattle.transfer.specs.Moves.{decisionOf}
 use Rattle.transfer.specs.Verdicts.{verdictNumber}
 use Rattle.transfer.specs.declared.limits.Limits.{Limits}
 use Rattle.transfer.specs.declared.lines.Lines.{Lines}
-use Rattle.transfer.specs.declared.state.State.{State}
+use Rattle.reader.specs.declared.state.State.{State}
 use Rattle.transfer.specs.declared.verdict.Decision.{Decision}
-use Rattle.transfer.proofs.TickLaws.{counts}
+use Rattle.reader.proofs.TickLaws.{counts}
+use Rattle.reader.proofs.Outcomes.{outcome-states}
 use Rattle.judge.specs.Judged.{leaves, byteRoom, ledgerRoom, tickLines, twoTicks, stepHolding, verdictAnswer, verdictLeaves, judged}
 use Rattle.judge.specs.Reading.{ticksFrom, Reached, reached, readInto, stateAnswer}
 use Rattle.judge.proofs.JudgedLaws.{good-steps, is-verdict}
@@ -36,12 +39,13 @@ state-answer steps s d step number ed es en =
 read-verdict : (L : Limits) (steps : List Step) (w : List Lines) (b g : List ℕ)
     → leaves (stateAnswer steps (readInto L w b g .state)) (readInto L w b g .bytes) (readInto L w b g .ledger)
     ≡ verdictLeaves steps (outcome L w) b g
-unfolding readInto outcome
+unfolding readInto
 read-verdict L steps w b g =
     let h = handedOver L firstState w in
     let s = readInto L w b g .state in
     let count : s .count ≡ length h = counts L w firstState ∙ zero-add (length h) in
     ap (λ (n : ℕ). leaves (verdictAnswer steps (decisionOf (s .phase) (s .tick)) n) (values h over b) (twoTicks h over g)) count
+    ∙ ap (λ (o : Outcome). verdictLeaves steps o b g) (sym (outcome-states L w))
 
 -- A recording of good form that was read, with enough room lent.
 pub is-read : (L : Limits) (file b g : List ℕ) (n : ℕ) → formOf file ≡ Good n → byteRoom ≤ length b → ledgerRoom ≤ length g

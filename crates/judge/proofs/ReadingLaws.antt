@@ -6,17 +6,18 @@ use mathlib.Core.Path.{_≡_, refl, sym, ap, ap₂, subst, _∙_}
 use native.Mathlib.Omega.{arith}
 use lib.ListN.{length, replicate}
 use lib.Seq.{sets}
-use Rattle.transfer.specs.Outcome.{stateAfter, handedIn, handedOver}
-use Rattle.transfer.specs.Idle.{idleTicks, later, Idle, Counted}
+use Rattle.reader.specs.After.{stateAfter, handedIn, handedOver}
+use Rattle.reader.specs.Idle.{idleTicks, later, Idle, Counted}
 use Rattle.transfer.specs.Pair.{values}
-use Rattle.transfer.specs.TickLaws.{OneTick}
-use Rattle.transfer.specs.States.{firstState, nextState, isDecided}
+use Rattle.reader.specs.TickLaws.{OneTick}
+use Rattle.reader.specs.States.{firstState, nextState}
+use Rattle.transfer.specs.Moves.{isDecided}
 use Rattle.transfer.specs.declared.limits.Limits.{Limits}
 use Rattle.transfer.specs.declared.lines.Lines.{Lines}
 use Rattle.transfer.specs.declared.phase.Byte.{Byte}
-use Rattle.transfer.specs.declared.state.State.{State}
-use Rattle.transfer.proofs.TickLaws.{one-tick, counts, stands}
-use Rattle.transfer.proofs.IdleLaws.{idle-law}
+use Rattle.reader.specs.declared.state.State.{State}
+use Rattle.reader.proofs.TickLaws.{one-tick, counts, stands}
+use Rattle.reader.proofs.IdleLaws.{idle-law}
 use Rattle.judge.specs.Judged.{byteRoom, ledgerRoom, twoTicks}
 use Rattle.judge.specs.Reading.{withByte, withTicks, Reached, reached, readInto}
 use Rattle.judge.proofs.LedgerLists.{length-values, length-twoTicks}

@@ -10,12 +10,14 @@ use Rattle.recording.specs.Ticks.{stepsFrom, ticks}
 use Rattle.recording.specs.declared.step.Step.{Step}
 use Rattle.recording.proofs.StepLaws.{ticks-begin, ticks-end, steps-count}
 use Rattle.transfer.specs.Lines.{linesOf}
-use Rattle.transfer.specs.Outcome.{handedOver, outcome}
+use Rattle.reader.specs.After.{handedOver}
+use Rattle.transfer.specs.Outcome.{Outcome}
 use Rattle.transfer.specs.Spans.{Span, ticks as spanned}
-use Rattle.transfer.specs.States.{firstState}
+use Rattle.reader.specs.States.{firstState}
 use Rattle.transfer.specs.declared.limits.Limits.{Limits}
 use Rattle.transfer.specs.declared.lines.Lines.{Lines}
 use Rattle.transfer.proofs.Room.{room}
+use Rattle.reader.proofs.Outcomes.{outcome-states}
 use Rattle.judge.specs.Judged.{byteRoom}
 use Rattle.judge.specs.Reading.{ticksFrom}
 
@@ -72,8 +74,8 @@ in-spans (s ∷ steps) = step-lines s (ticks steps) ∙ ap (λ w. replicate (s .
 
 -- By the room law: the places that are lent suffice.
 pub few-handed : (L : Limits) (file : List ℕ) (n : ℕ) → n ≤ mostSteps → length (handedOver L firstState (ticksFrom file 0 n)) < byteRoom
-unfolding outcome
 few-handed L file n h =
     let spans = map span (stepsFrom file 0 n) in
     subst (λ w. length (handedOver L firstState w) < byteRoom) (sym (in-spans (stepsFrom file 0 n)))
-    (room L spans .few (omega (arith, length-map (stepsFrom file 0 n) span, steps-count file n 0)))
+    (subst (λ (o : Outcome). length (o .bytes) < byteRoom) (outcome-states L (spanned spans))
+    (room L spans .few (omega (arith, length-map (stepsFrom file 0 n) span, steps-count file n 0))))

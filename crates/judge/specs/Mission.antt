@@ -8,8 +8,8 @@ use Rattle.recording.specs.Layout.{headerAt}
 use Rattle.recording.specs.Ticks.{stepsFrom, totalTicks}
 use Rattle.transfer.specs.Demand3.{Consistent}
 use Rattle.transfer.specs.Limits.{standardLimits}
-use Rattle.transfer.specs.Outcome.{stateAfter}
-use Rattle.transfer.specs.States.{firstState}
+use Rattle.reader.specs.After.{stateAfter}
+use Rattle.reader.specs.States.{firstState}
 use Rattle.transfer.specs.declared.limits.Limits.{Limits}
 use Rattle.transfer.specs.declared.phase.Phase.the-variants.{End}
 use Rattle.judge.specs.Judged.{Judged, leaves, judged, tickList}

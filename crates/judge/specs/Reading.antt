@@ -9,12 +9,13 @@ use Rattle.recording.specs.Choice.{if_then_else_}
 use Rattle.recording.specs.Layout.{mostSteps, fileLength}
 use Rattle.recording.specs.Ticks.{stepsFrom}
 use Rattle.recording.specs.declared.step.Step.{Step}
-use Rattle.transfer.specs.Outcome.{stateAfter, handedOver}
+use Rattle.reader.specs.After.{stateAfter, handedOver}
 use Rattle.transfer.specs.Pair.{values}
-use Rattle.transfer.specs.States.{firstState, decisionOf}
+use Rattle.reader.specs.States.{firstState}
+use Rattle.transfer.specs.Moves.{decisionOf}
 use Rattle.transfer.specs.declared.limits.Limits.{Limits}
 use Rattle.transfer.specs.declared.lines.Lines.{Lines}
-use Rattle.transfer.specs.declared.state.State.{State}
+use Rattle.reader.specs.declared.state.State.{State}
 use Rattle.judge.specs.Judged.{byteRoom, ledgerRoom, tickLines, twoTicks, verdictAnswer}
 
 -- The byte buffer and the ledger after a tick from s to t: the byte that it handed over, if it did, stands at its place.

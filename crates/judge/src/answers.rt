@@ -7,8 +7,8 @@ ghost use Rattle.recording.specs.Ticks.{stepsFrom};
 ghost use Rattle.judge.specs.Judged.{stepHolding};
 ghost use Rattle.judge.specs.Reading.{stateAnswer};
 use answer::Answer;
+use reader::State;
 use recording::Step;
-use transfer::State;
 
 // The step that holds a tick, or the number of steps where none does.
 fn step_holding(file: &[u8], steps: usize, tick: u32) -> u32

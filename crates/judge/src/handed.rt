@@ -3,7 +3,7 @@ ghost use mathlib.Core.Path.{_≡_};
 ghost use Prim.Native.Nat.{_+_, _*_, _<_};
 ghost use lib.ListN.{length};
 ghost use Rattle.judge.specs.Reading.{withByte, withTicks};
-use transfer::State;
+use reader::State;
 
 // Stores the byte's value in its place, if the tick from `before` to `after` handed a byte over.
 pub(crate) fn store_byte(bytes: &mut [u8], before: State, after: State)

@@ -2,10 +2,10 @@
 ghost use mathlib.Core.Path.{_≡_};
 ghost use Rattle.judge.specs.Reading.{Readable, reached, readInto, ticksFrom};
 use crate::handed;
+use reader::State;
 use recording::Step;
 use transfer::Limits;
 use transfer::Lines;
-use transfer::State;
 
 // The state after the last tick, or at the deciding one. Each byte and its two ticks are stored as they are handed over.
 pub(crate) fn read(

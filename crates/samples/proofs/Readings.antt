@@ -2,10 +2,10 @@
 use mathlib.Core.Path.{refl}
 use Rattle.transfer.specs.Offsets.{below, upTo}
 use Rattle.transfer.specs.Phases.{next, same, withBit, handover, afterBit}
-use Rattle.transfer.specs.States.{follow, nextState}
-use Rattle.transfer.specs.Outcome.{stateAfter, handedOver, outcome}
+use Rattle.transfer.specs.Moves.{move}
+use Rattle.transfer.specs.Outcome.{run}
 use Rattle.samples.specs.Readings.{ReadingsHold}
 
 pub readings-hold : ReadingsHold
-unfolding below upTo next same withBit handover afterBit follow nextState stateAfter handedOver outcome
+unfolding below upTo next same withBit handover afterBit move run
 readings-hold = refl

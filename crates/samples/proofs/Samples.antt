@@ -6,19 +6,19 @@ use Rattle.recording.specs.Form.{headerTest, stepTest, stepsForm, bodyForm, for
 use Rattle.recording.specs.Ticks.{stepsFrom, stepsOf, totalTicks, ticks}
 use Rattle.transfer.specs.Offsets.{below, upTo}
 use Rattle.transfer.specs.Phases.{next, same, withBit, handover, afterBit}
-use Rattle.transfer.specs.States.{follow, nextState}
-use Rattle.transfer.specs.Outcome.{stateAfter, handedOver, outcome}
+use Rattle.transfer.specs.Moves.{move}
+use Rattle.transfer.specs.Outcome.{run}
 use Rattle.judge.specs.Judged.{stepHolding, twoTicks, judgedInForm, judged}
 use Rattle.judge.specs.Samples.{SamplesHold, CutAfterByteHolds, S1Printed, S1Ticks, RefusedSamplesHold}
 
 pub samples-hold : SamplesHold
-unfolding below upTo next same withBit handover afterBit follow nextState stateAfter handedOver outcome
+unfolding below upTo next same withBit handover afterBit move run
     headerBytes stepBytes stepsBytes fileOf headerTest stepTest stepsForm bodyForm formOf
     stepsFrom stepsOf totalTicks ticks stepHolding twoTicks judgedInForm judged
 samples-hold = refl
 
 pub cut-after-byte-holds : CutAfterByteHolds
-unfolding below upTo next same withBit handover afterBit follow nextState stateAfter handedOver outcome
+unfolding below upTo next same withBit handover afterBit move run
     headerBytes stepBytes stepsBytes fileOf headerTest stepTest stepsForm bodyForm formOf
     stepsFrom stepsOf totalTicks ticks stepHolding twoTicks judgedInForm judged
 cut-after-byte-holds = refl

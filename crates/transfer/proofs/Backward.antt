@@ -11,8 +11,9 @@ use borrow.Author.Tests.{ltb-true, ltb-false, leb-true, leb-false}
 use Rattle.transfer.specs.Choice.{if_then_else_}
 use Rattle.transfer.specs.Offsets.{below, upTo}
 use Rattle.transfer.specs.Phases.{Move, Go, Stop, next, same, withBit, handover, afterBit}
+use Rattle.transfer.specs.Moves.{move}
 use Rattle.transfer.specs.Verdicts.{cutAt}
-use Rattle.transfer.specs.Outcome.{Outcome}
+use Rattle.transfer.specs.Outcome.{Outcome, decided, ended, give, onward, run}
 use Rattle.transfer.specs.Parties.{Pulls, nobody, held, clock, clockHeld, sets, offers, Plan, track}
 use Rattle.transfer.specs.Parties.{sendingBytes, planBytes}
 use Rattle.transfer.specs.Rules.{PlanRules}
@@ -28,7 +29,7 @@ use Rattle.transfer.specs.declared.verdict.Fault.{Fault}
 use Rattle.transfer.specs.declared.verdict.Fault.the-variants.{ClockStall}
 use Rattle.transfer.specs.declared.verdict.Verdict.{Verdict}
 use Rattle.transfer.specs.declared.verdict.Verdict.the-variants.{Complete, Cut, Broken}
-use Rattle.transfer.proofs.Run.{run, lines, onward, decided, ended, give}
+use Rattle.transfer.proofs.Rows.{lines}
 use Rattle.transfer.proofs.Forward.{shows}
 use Rattle.transfer.proofs.Shapes.{clockKept, leaves, stay, one, many, Tidy, opens, carries, Shape}
 use Rattle.transfer.proofs.Plans.{sends}
@@ -363,7 +364,7 @@ module _ (L : Limits) where
 
     one-more : (p : Phase) (now : ℕ) (w : List Lines) (a c d : Bool) → Holds w → InTime p now
         → Sound (From p now (record { atn = a; clk = c; «data» = d } ∷ w)) (run L now p (record { atn = a; clk = c; «data» = d } ∷ w))
-    unfolding run
+    unfolding run move
     one-more p now w true c d ih i = dead _ _ _
     one-more p now w false c d ih i = row p c d now w ih i
 

@@ -1,36 +1,26 @@
 -- Where the tick of a decision lies: at the end for a cut, otherwise inside the recording. Assumes nothing.
 use Prim.Native.Nat.{ℕ, suc, _+_, _≤_, _<_}
 use native.Mathlib.Omega.{arith}
-use mathlib.Core.Path.{_≡_, refl, sym, ap, subst, _∙_}
-use mathlib.Core.Bool.{Bool, true, false, true≢false, false≢true}
+use mathlib.Core.Path.{_≡_, refl, sym, ap, _∙_}
+use mathlib.Core.Bool.{Bool, true, false, true≢false}
 use mathlib.Core.List.{List, [], _∷_}
 use lib.ListN.{length}
-use Rattle.transfer.specs.Choice.{if_then_else_}
 use Rattle.transfer.specs.Phases.{Move, Go, Hand, Stop}
-use Rattle.transfer.specs.States.{firstState, follow, nextState, readIn, isDecided, decisionOf}
-use Rattle.transfer.specs.Outcome.{stateAfter, outcome}
+use Rattle.transfer.specs.Moves.{isDecided, decisionOf}
+use Rattle.transfer.specs.Outcome.{onward, run}
 use Rattle.transfer.specs.Verdicts.{cutAt}
-use Rattle.transfer.specs.TickLaws.{DecisionTickLaw}
+use Rattle.transfer.specs.DecisionTicks.{DecisionTickLaw}
 use Rattle.transfer.specs.declared.limits.Limits.{Limits}
 use Rattle.transfer.specs.declared.lines.Lines.{Lines}
 use Rattle.transfer.specs.declared.phase.Phase.{Phase}
 use Rattle.transfer.specs.declared.phase.Phase.the-variants.{Start, FirstHold, Hold, ReadyToSend, ReadyForData}
 use Rattle.transfer.specs.declared.phase.Phase.the-variants.{Acknowledgement, Acknowledged, SetUp, Valid, Open, Carried}
 use Rattle.transfer.specs.declared.phase.Phase.the-variants.{End, Decided}
-use Rattle.transfer.specs.declared.state.State.{State}
-use Rattle.transfer.specs.declared.verdict.Fault.{Fault}
-use Rattle.transfer.specs.declared.verdict.Fault.the-variants.{Attention}
 use Rattle.transfer.specs.declared.verdict.Decision.{Decision}
 use Rattle.transfer.specs.declared.verdict.Verdict.{Verdict}
 use Rattle.transfer.specs.declared.verdict.Verdict.the-variants.{Complete, Cut, Broken}
 use Rattle.transfer.proofs.Rows.{Climbs, stops, goes, hands, climbs, finished, latest}
-use Rattle.transfer.proofs.Run.{undecided}
-
--- After n ticks: those that decided nothing are passed, a deciding tick is one of them, and so is a finish tick.
-record In (n : ℕ) (s : State) : Type 0 where
-  passed : isDecided (s .phase) ≡ false → s .tick ≡ n
-  decided : isDecided (s .phase) ≡ true → s .tick < n
-  finish : finished (s .phase) ≤ n
+use Rattle.transfer.proofs.Undecided.{undecided}
 
 no-later : (p : Phase) (now : ℕ) → finished p ≤ now → latest p now ≤ suc now
 no-later Start now h = omega arith
@@ -46,53 +36,6 @@ no-later (Open mark value since let-go) now h = omega arith
 no-later (Carried mark value since) now h = omega arith
 no-later (End finish) now h = omega arith
 no-later (Decided fault) now h = omega arith
-
--- One more tick.
-module _ (n : ℕ) (s : State) (i : In n s) (u : isDecided (s .phase) ≡ false) where
-  at : s .tick ≡ n
-  at = i .passed u
-
-  stop-in : (f : Fault) → In (suc n) (follow s (Stop f))
-  unfolding follow
-  stop-in f = record { passed = λ e. absurd (true≢false e); decided = λ e. omega (arith, at); finish = omega arith }
-
-  move-in : {most : ℕ} {c d : Bool} (x : Move) → Climbs most (latest (s .phase) (s .tick)) c d x → In (suc n) (follow s x)
-  unfolding follow
-  move-in (Stop f) stops = stop-in f
-  move-in {c = c} {d = d} (Go p) (goes a f e) =
-      record {
-        passed = λ v. omega (arith, at);
-        decided = λ v. absurd (true≢false (sym v ∙ undecided p c d e));
-        finish = omega (arith, f, no-later (s .phase) (s .tick) (omega (arith, at, i .finish)), at);
-      }
-  move-in {c = c} {d = d} (Hand b p) (hands a f e) =
-      record {
-        passed = λ v. omega (arith, at);
-        decided = λ v. absurd (true≢false (sym v ∙ undecided p c d e));
-        finish = omega (arith, f, no-later (s .phase) (s .tick) (omega (arith, at, i .finish)), at);
-      }
-
-tick-in : (L : Limits) (n : ℕ) (s : State) (l : Lines) → In n s → In (suc n) (nextState L s l)
-unfolding nextState
-tick-in L n s l i = by-test (isDecided (s .phase)) (l .atn) refl
-  where
-    by-test : (u a : Bool) → isDecided (s .phase) ≡ u
-        → In (suc n) (if u then s else if a then follow s (Stop Attention) else readIn L s (s .phase) l)
-    by-test true a e =
-        record {
-          passed = λ v. absurd (true≢false (sym e ∙ v));
-          decided = λ v. omega (arith, i .decided e);
-          finish = omega (arith, i .finish);
-        }
-    by-test false true e = stop-in n s i e Attention
-    by-test false false e = move-in n s i e _ (climbs L (s .tick) (s .phase) (l .clk) (l .«data»))
-
-all-in : (L : Limits) (w : List Lines) (n : ℕ) (s : State) → In n s → In (n + length w) (stateAfter L s w)
-unfolding stateAfter
-all-in L [] n s i = let z : n + 0 ≡ n = omega arith in rw z i
-all-in L (l ∷ w) n s i =
-    let z : n + suc (length w) ≡ suc n + length w = omega arith in
-    rw z (all-in L w (suc n) (nextState L s l) (tick-in L n s l i))
 
 -- The decision in a state: cut at the next tick, or inside.
 record Placed (d : Decision) (n : ℕ) : Type 0 where
@@ -127,13 +70,33 @@ decision-in (Carried mark value since) tick n u d f = cut-at tick n (u refl)
 decision-in (End finish) tick n u d f = not-cut _ n refl (omega arith)
 decision-in (Decided fault) tick n u d f = not-cut _ n refl (d refl)
 
+-- From a phase that is not decided, and whose finish tick has been read, if it is the end.
+module _ (L : Limits) where
+  abbrev Lies : List Lines → Type 0
+  Lies w = (now : ℕ) (p : Phase) → isDecided p ≡ false → finished p ≤ now → Placed (run L now p w .decision) (now + length w)
+
+  -- One more tick.
+  module _ (w : List Lines) (ih : Lies w) (l : Lines) (now : ℕ) (p : Phase) (f : finished p ≤ now) where
+    beyond : (q : Phase) → isDecided q ≡ false → finished q ≤ latest p now → Placed (run L (suc now) q w .decision) (now + suc (length w))
+    beyond q u h =
+        let z : now + suc (length w) ≡ suc now + length w = omega arith in
+        rw z (ih (suc now) q u (omega (arith, no-later p now f)))
+
+    moved : {most : ℕ} (x : Move) → Climbs most (latest p now) l x
+        → Placed (onward x now (λ (q : Phase). run L (suc now) q w) .decision) (now + suc (length w))
+    moved (Stop fault) stops = not-cut _ _ refl (omega arith)
+    moved (Go q) (goes a h e) = beyond q (undecided q l e) h
+    moved (Hand b q) (hands a h e) = beyond q (undecided q l e) h
+
+  lies : (w : List Lines) → Lies w
+  unfolding run
+  lies [] now p u f =
+      let z : now + 0 ≡ now = omega arith in
+      rw z (decision-in p now now (λ e. refl) (λ e. absurd (true≢false (sym e ∙ u))) f)
+  lies (l ∷ w) now p u f = moved w (lies w) l now p f _ (climbs L now p l)
+
 pub decision-tick : DecisionTickLaw
-unfolding outcome
 decision-tick L w =
-    let first : In 0 firstState = record { passed = λ e. refl; decided = λ e. absurd (false≢true e); finish = omega arith } in
-    let s = stateAfter L firstState w in
-    let last = all-in L w 0 firstState first in
     let z : 0 + length w ≡ length w = omega arith in
-    let placed = subst (Placed (decisionOf (s .phase) (s .tick))) z
-    (decision-in (s .phase) (s .tick) (0 + length w) (last .passed) (last .decided) (last .finish)) in
+    let placed = rw z at (lies L w 0 Start refl (omega arith)) in
     record { cut = placed .cut; inside = placed .inside }

@@ -5,7 +5,7 @@ use mathlib.Core.Path.{_≡_, refl, sym, ap, ap₂, _∙_, subst, subst⁻¹}
 use mathlib.Core.Bool.{Bool, _||_}
 use mathlib.Core.List.{List, [], _∷_, map}
 use Rattle.transfer.specs.Limits.{standardLimits}
-use Rattle.transfer.specs.Outcome.{Outcome, outcome}
+use Rattle.transfer.specs.Outcome.{run, outcome}
 use Rattle.transfer.specs.Parties.{Pulls, pulls, track}
 use Rattle.transfer.specs.Pair.{SenderPulls, senderPulls, receiverPulls, gives, values, SameOrLater}
 use Rattle.transfer.specs.Shown.{shown}
@@ -17,7 +17,7 @@ use Rattle.transfer.specs.declared.lines.Lines.{Lines}
 use Rattle.transfer.specs.declared.phase.Byte.{Byte}
 use Rattle.transfer.specs.declared.verdict.Verdict.the-variants.{Complete}
 use Rattle.transfer.specs.declared.phase.Phase.the-variants.{Start}
-use Rattle.transfer.proofs.Run.{run, lines, outcome-is}
+use Rattle.transfer.proofs.Rows.{lines}
 use Rattle.transfer.proofs.Forward.{shows, CompleteBy, along}
 use Rattle.transfer.proofs.Backward.{Planned, back}
 use Rattle.transfer.proofs.Shown.{shows-plan}
@@ -43,13 +43,11 @@ module _ (L : Limits) (times : Consistent L) (w : List Lines) where
       sym (gives-shows (track (p .plan))) ∙ sym (ap₂ gives (p .sends) (p .receives)) ∙ x .gives-it in
       let bytes = subst⁻¹ (λ l. CompleteBy (run L 0 Start (map shows (track (p .plan)))) l) (p .dated-so) (along L times
       (p .plan) (p .rules)) in
-      subst⁻¹ (λ o. CompleteBy o dated) (outcome-is L w) (subst (λ v. CompleteBy (run L 0 Start v) dated) given bytes)
+      subst (λ v. CompleteBy (run L 0 Start v) dated) given bytes
 
   -- A complete tick list is what a plan gives.
   planned : outcome L w .decision .verdict ≡ Complete → Planned L times w (outcome L w .bytes)
-  planned e =
-      subst⁻¹ (λ (o : Outcome). Planned L times w (o .bytes)) (outcome-is L w)
-      (back L times w (ap (λ (o : Outcome). o .decision .verdict) (sym (outcome-is L w)) ∙ e))
+  planned e = back L times w e
 
   shows-pair : (string : List ℕ) → CompleteWith L w string
       → Explains L w string (shownSender (outcome L w .bytes) w) (shownReceiver (outcome L w .bytes) w) (outcome L w .bytes)

@@ -11,8 +11,8 @@ use Rattle.transfer.specs.Choice.{if_then_else_}
 use Rattle.transfer.specs.Limits.{standardLimits}
 use Rattle.transfer.specs.Offsets.{below, upTo}
 use Rattle.transfer.specs.Phases.{next, same, withBit, handover, afterBit}
-use Rattle.transfer.specs.States.{follow, nextState}
-use Rattle.transfer.specs.Outcome.{stateAfter, handedOver, outcome}
+use Rattle.transfer.specs.Moves.{move}
+use Rattle.transfer.specs.Outcome.{run}
 use Rattle.transfer.specs.Parties.{Bit, Frame, Sending, more, last, valueOf, sendingBytes}
 use Rattle.transfer.specs.Rules.{BitRule, FrameRules, SendingRules, PlanRules}
 use Rattle.transfer.specs.Pair.{values}
@@ -87,7 +87,7 @@ pair-sends-bytes L string sender receiver dated p =
 
 -- S1 has a pair.
 s1-complete : CompleteWith standardLimits (ticks s1) (0x41 ∷ [])
-unfolding below upTo next same withBit handover afterBit follow nextState stateAfter handedOver outcome
+unfolding below upTo next same withBit handover afterBit move run
 s1-complete = record { verdict = refl; bytes = refl }
 
 pub s1-explained : S1Explained

@@ -9,7 +9,8 @@ use borrow.Author.Tests.{lt-ltb, le-ltb, le-leb, lt-leb}
 use Rattle.transfer.specs.Choice.{if_then_else_}
 use Rattle.transfer.specs.Offsets.{below, upTo}
 use Rattle.transfer.specs.Phases.{Move, Go, Hand, next, same, withBit, handover, afterBit}
-use Rattle.transfer.specs.Outcome.{Outcome}
+use Rattle.transfer.specs.Moves.{move}
+use Rattle.transfer.specs.Outcome.{Outcome, ended, give, onward, run}
 use Rattle.transfer.specs.Parties.{Pulls, pulls, nobody, held, clock, clockHeld, sets, offers, Bit, Frame}
 use Rattle.transfer.specs.Parties.{Sending, more, last, Plan, bitsTrack, frameTrack, sendingTrack, track}
 use Rattle.transfer.specs.Parties.{bitsTicks, byteOf, afterFrame, sendingBytes, planBytes}
@@ -25,7 +26,7 @@ use Rattle.transfer.specs.declared.phase.Phase.the-variants.{Start, Firs
 use Rattle.transfer.specs.declared.phase.Phase.the-variants.{Acknowledgement, Acknowledged, SetUp, Valid, Open, Carried}
 use Rattle.transfer.specs.declared.phase.Phase.the-variants.{End}
 use Rattle.transfer.specs.declared.verdict.Verdict.the-variants.{Complete}
-use Rattle.transfer.proofs.Run.{run, lines, onward, give, ended}
+use Rattle.transfer.proofs.Rows.{lines}
 use Rattle.transfer.proofs.HandoverTicks.{isPositive, less, handoverTicks, frameTicks, frame-ticks}
 use Rattle.transfer.proofs.ByteValue.{takenIn, lastBit, eight-bits}
 
@@ -76,7 +77,7 @@ module _ (L : Limits) where
   -- One tick.
   one-tick : (now : ℕ) (p : Phase) (x : Move) (c d : Bool) (w : List Lines) → next L now p c d ≡ x
       → run L now p (lines c d ∷ w) ≡ onward x now (λ (q : Phase). run L (suc now) q w)
-  unfolding run
+  unfolding run move
   one-tick now p x c d w e = ap (λ (y : Move). onward y now (λ (q : Phase). run L (suc now) q w)) e
 
   step : (now : ℕ) (p q : Phase) (c d : Bool) (w : List Lines) → next L now p c d ≡ Go q

@@ -1,10 +1,7 @@
--- Why it holds. The crates above cite TickLaws, DecisionTicks, Room, Demand3 and Facts, and the writer's read-back the proofs along a plan.
-pub mod Tests
+-- Why it holds. The crates above cite Rows, Undecided, DecisionTicks, Room, Demand3 and Facts, and the writer's read-back the proofs along a plan.
 pub mod Rows
-pub mod Run
+pub mod Undecided
 pub mod DecisionTicks
-pub mod TickLaws
-pub mod IdleLaws
 pub mod Room
 pub mod HandoverTicks
 pub mod ByteValue
@@ -14,5 +11,4 @@ pub mod Plans
 pub mod Backward
 pub mod Shown
 pub mod Demand3
-pub mod Endings
 pub mod Facts

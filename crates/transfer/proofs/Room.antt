@@ -1,22 +1,19 @@
 -- The room law: a byte takes nineteen steps at the least. Assumes nothing.
 use Prim.Native.Nat.{ℕ, zero, suc, _+_, _*_, _≤_}
 use native.Mathlib.Omega.{arith}
-use mathlib.Core.Path.{_≡_, sym, ap, subst}
+use mathlib.Core.Path.{_≡_, ap}
 use mathlib.Core.Bool.{Bool, true, false}
 use mathlib.Core.List.{List, [], _∷_, _++_}
 use lib.ListN.{length, replicate}
-use Rattle.transfer.specs.Choice.{if_then_else_}
-use Rattle.transfer.specs.Phases.{Move, Go, Hand, Stop, next}
-use Rattle.transfer.specs.Outcome.{Outcome, outcome}
+use Rattle.transfer.specs.Phases.{Move, Go, Hand, Stop}
+use Rattle.transfer.specs.Outcome.{onward, run, outcome}
 use Rattle.transfer.specs.Spans.{Span, ticks}
 use Rattle.transfer.specs.Room.{Room, RoomLaw}
 use Rattle.transfer.specs.declared.limits.Limits.{Limits}
 use Rattle.transfer.specs.declared.lines.Lines.{Lines}
 use Rattle.transfer.specs.declared.phase.Phase.{Phase}
 use Rattle.transfer.specs.declared.phase.Phase.the-variants.{Start}
-use Rattle.transfer.specs.declared.verdict.Fault.the-variants.{Attention}
 use Rattle.transfer.proofs.Rows.{Climbs, stops, goes, hands, climbs, settled, place, further}
-use Rattle.transfer.proofs.Run.{run, onward, decided, outcome-is}
 
 one-at-most : (t : Bool) → further t ≤ 1
 one-at-most true = omega arith
@@ -33,26 +30,19 @@ module _ (L : Limits) where
 
   -- One tick that shows l, and then the rest.
   module _ (l : Lines) (w : List Lines) (n now : ℕ)
-      (rest : (q : Phase) → settled q (l .clk) (l .«data») ≡ true → 19 * handed (suc now) q w ≤ n + place q) where
-    one-move : {most late : ℕ} (x : Move) → Climbs most late (l .clk) (l .«data») x
+      (rest : (q : Phase) → settled q l ≡ true → 19 * handed (suc now) q w ≤ n + place q) where
+    one-move : {most late : ℕ} (x : Move) → Climbs most late l x
         → 19 * length (onward x now (λ (q : Phase). run L (suc now) q w) .bytes) ≤ n + most
     one-move (Stop f) stops = omega arith
     one-move (Go q) (goes a f e) = omega (arith, rest q e)
     one-move (Hand b q) (hands a f e) = omega (arith, rest q e)
 
-    one-tick : (p : Phase) → 19 * handed now p (l ∷ w) ≤ n + (place p + further (settled p (l .clk) (l .«data»)))
+    one-tick : (p : Phase) → 19 * handed now p (l ∷ w) ≤ n + (place p + further (settled p l))
     unfolding run
-    one-tick p = by-atn (l .atn)
-      where
-        by-atn : (a : Bool)
-            → 19 * length ((if a then decided Attention now
-            else onward (next L now p (l .clk) (l .«data»)) now (λ (q : Phase). run L (suc now) q w)) .bytes)
-            ≤ n + (place p + further (settled p (l .clk) (l .«data»)))
-        by-atn true = omega arith
-        by-atn false = one-move _ (climbs L now p (l .clk) (l .«data»))
+    one-tick p = one-move _ (climbs L now p l)
 
   -- Further ticks of a span, and then the rest.
-  same-lines : (k : ℕ) (l : Lines) (w : List Lines) (n : ℕ) → Fits w n → (now : ℕ) (p : Phase) → settled p (l .clk) (l .«data») ≡ true
+  same-lines : (k : ℕ) (l : Lines) (w : List Lines) (n : ℕ) → Fits w n → (now : ℕ) (p : Phase) → settled p l ≡ true
       → 19 * handed now p (replicate k l ++ w) ≤ n + place p
   same-lines zero l w n f now p e = f now p
   same-lines (suc k) l w n f now p e =
@@ -69,7 +59,7 @@ module _ (L : Limits) where
       omega (
         arith,
         one-tick l (replicate k l ++ w) n now (λ q b. same-lines k l w n f (suc now) q b) p,
-        one-at-most (settled p (l .clk) (l .«data»)),
+        one-at-most (settled p l),
       )
 
   fits : (spans : List Span) → Fits (ticks spans) (length spans)
@@ -79,9 +69,7 @@ module _ (L : Limits) where
 
   keeps : (spans : List Span) → Room L spans
   keeps spans =
-      let places : 19 * length (outcome L (ticks spans) .bytes) ≤ length spans =
-      subst (λ (o : Outcome). 19 * length (o .bytes) ≤ length spans) (sym (outcome-is L (ticks spans)))
-      (omega (arith, fits spans 0 Start)) in
+      let places : 19 * length (outcome L (ticks spans) .bytes) ≤ length spans = omega (arith, fits spans 0 Start) in
       record { nineteen = places; few = λ h. omega arith }
 
 pub room : RoomLaw

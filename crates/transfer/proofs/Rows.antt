@@ -9,13 +9,16 @@ use lib.Dec.{eqb}
 use Rattle.transfer.specs.Choice.{if_then_else_}
 use Rattle.transfer.specs.Offsets.{below, upTo}
 use Rattle.transfer.specs.Phases.{Move, Go, Hand, Stop, next, same, handover, afterBit}
+use Rattle.transfer.specs.Moves.{move}
 use Rattle.transfer.specs.declared.limits.Limits.{Limits}
+use Rattle.transfer.specs.declared.lines.Lines.{Lines}
 use Rattle.transfer.specs.declared.phase.Byte.{Byte}
 use Rattle.transfer.specs.declared.phase.Phase.{Phase}
 use Rattle.transfer.specs.declared.phase.Phase.the-variants.{Start, FirstHold, Hold, ReadyToSend, ReadyForData}
 use Rattle.transfer.specs.declared.phase.Phase.the-variants.{Acknowledgement, Acknowledged, SetUp, Valid, Open, Carried}
 use Rattle.transfer.specs.declared.phase.Phase.the-variants.{End, Decided}
 use Rattle.transfer.specs.declared.verdict.Fault.{Fault}
+use Rattle.transfer.specs.declared.verdict.Fault.the-variants.{Attention}
 
 -- How far the reading of a byte has come: 19 places make a byte.
 abbrev pub place : Phase → ℕ
@@ -33,21 +36,29 @@ place (Carried mark value since) = 18
 place (End finish) = 0
 place (Decided fault) = 0
 
+-- CLK and DATA in which a phase stays.
+abbrev pub rests : Phase → (clk dat : Bool) → Bool
+rests Start c d = c && not d
+rests FirstHold c d = c && d
+rests (Hold byte mark) c d = c && d
+rests (ReadyToSend any ended) c d = not c && d
+rests (ReadyForData any since) c d = not c && not d
+rests (Acknowledgement any ready since) c d = not c && d
+rests (Acknowledged any ready since) c d = not c && not d
+rests (SetUp mark left value since last) c d = c && same last d
+rests (Valid mark left value since bit) c d = not c && same bit d
+rests (Open mark value since let-go) c d = c && not d
+rests (Carried mark value since) c d = c && d
+rests (End finish) c d = not c && not d
+rests (Decided fault) c d = false
+
 -- The lines in which a phase stays.
-abbrev pub settled : Phase → (clk dat : Bool) → Bool
-settled Start c d = c && not d
-settled FirstHold c d = c && d
-settled (Hold byte mark) c d = c && d
-settled (ReadyToSend any ended) c d = not c && d
-settled (ReadyForData any since) c d = not c && not d
-settled (Acknowledgement any ready since) c d = not c && d
-settled (Acknowledged any ready since) c d = not c && not d
-settled (SetUp mark left value since last) c d = c && same last d
-settled (Valid mark left value since bit) c d = not c && same bit d
-settled (Open mark value since let-go) c d = c && not d
-settled (Carried mark value since) c d = c && d
-settled (End finish) c d = not c && not d
-settled (Decided fault) c d = false
+abbrev pub settled : Phase → Lines → Bool
+settled p l = not (l .atn) && rests p (l .clk) (l .«data»)
+
+-- A tick with ATN released.
+abbrev pub lines : (clk dat : Bool) → Lines
+lines c d = record { atn = false; clk = c; «data» = d }
 
 -- DATA that stays is the same.
 pub stays-same : (d : Bool) → same d d ≡ true
@@ -91,83 +102,93 @@ latest (Carried mark value since) now = suc now
 latest (End finish) now = suc finish
 latest (Decided fault) now = suc now
 
-pub data Climbs (most late : ℕ) (c d : Bool) : Move → Type 0 where
-  stops : {f : Fault} → Climbs most late c d (Stop f)
-  goes : {p : Phase} → place p ≤ most → finished p ≤ late → settled p c d ≡ true → Climbs most late c d (Go p)
-  hands : {b : Byte} {p : Phase} → 19 + place p ≤ most → finished p ≤ late → settled p c d ≡ true → Climbs most late c d (Hand b p)
+pub data Climbs (most late : ℕ) (l : Lines) : Move → Type 0 where
+  stops : {f : Fault} → Climbs most late l (Stop f)
+  goes : {p : Phase} → place p ≤ most → finished p ≤ late → settled p l ≡ true → Climbs most late l (Go p)
+  hands : {b : Byte} {p : Phase} → 19 + place p ≤ most → finished p ≤ late → settled p l ≡ true → Climbs most late l (Hand b p)
 
-module _ {most late : ℕ} {c d : Bool} where
-  on : (p : Phase) → place p ≤ most → finished p ≤ late → settled p c d ≡ true → Climbs most late c d (Go p)
+module _ {most late : ℕ} {l : Lines} where
+  on : (p : Phase) → place p ≤ most → finished p ≤ late → settled p l ≡ true → Climbs most late l (Go p)
   on p a f e = goes a f e
 
-  over : (b : Byte) (p : Phase) → 19 + place p ≤ most → finished p ≤ late → settled p c d ≡ true → Climbs most late c d (Hand b p)
+  over : (b : Byte) (p : Phase) → 19 + place p ≤ most → finished p ≤ late → settled p l ≡ true → Climbs most late l (Hand b p)
   over b p a f e = hands a f e
 
-  either : (t : Bool) (x y : Move) → Climbs most late c d x → Climbs most late c d y → Climbs most late c d (if t then x else y)
+  either : (t : Bool) (x y : Move) → Climbs most late l x → Climbs most late l y → Climbs most late l (if t then x else y)
   either true x y p q = p
   either false x y p q = q
 
-  if-below : (n s now : ℕ) (x y : Move) → Climbs most late c d x → Climbs most late c d y
-      → Climbs most late c d (if below n s now then x else y)
+  if-below : (n s now : ℕ) (x y : Move) → Climbs most late l x → Climbs most late l y
+      → Climbs most late l (if below n s now then x else y)
   if-below n s now x y p q = either (below n s now) x y p q
 
-  if-upTo : (n s now : ℕ) (x y : Move) → Climbs most late c d x → Climbs most late c d y
-      → Climbs most late c d (if upTo n s now then x else y)
+  if-upTo : (n s now : ℕ) (x y : Move) → Climbs most late l x → Climbs most late l y
+      → Climbs most late l (if upTo n s now then x else y)
   if-upTo n s now x y p q = either (upTo n s now) x y p q
 
-  if-same : (a b : Bool) (x y : Move) → (same a b ≡ true → Climbs most late c d x) → Climbs most late c d y
-      → Climbs most late c d (if same a b then x else y)
+  if-same : (a b : Bool) (x y : Move) → (same a b ≡ true → Climbs most late l x) → Climbs most late l y
+      → Climbs most late l (if same a b then x else y)
   if-same a b x y p q = by-test (same a b) refl
     where
-      by-test : (t : Bool) → same a b ≡ t → Climbs most late c d (if t then x else y)
+      by-test : (t : Bool) → same a b ≡ t → Climbs most late l (if t then x else y)
       by-test true e = p e
       by-test false e = q
 
 module _ (L : Limits) where
-  pub climbs : (now : ℕ) (p : Phase) (c d : Bool) → Climbs (place p + further (settled p c d)) (latest p now) c d (next L now p c d)
+  climbs-row : (now : ℕ) (p : Phase) (c d : Bool) → Climbs (place p + further (rests p c d)) (latest p now) (lines c d) (next L now p c d)
   unfolding next handover afterBit
-  climbs now Start false d = either (eqb now 0) _ _ stops stops
-  climbs now Start true true = on _ (omega arith) (omega arith) refl
-  climbs now Start true false = if-below _ _ _ _ _ (on _ (omega arith) (omega arith) refl) stops
-  climbs now FirstHold true true = on _ (omega arith) (omega arith) refl
-  climbs now FirstHold false true = on _ (omega arith) (omega arith) refl
-  climbs now FirstHold true false = stops
-  climbs now FirstHold false false = stops
-  climbs now (Hold byte mark) true true = on _ (omega arith) (omega arith) refl
-  climbs now (Hold byte mark) false true = if-below _ _ _ _ _ stops (over _ _ (omega arith) (omega arith) refl)
-  climbs now (Hold byte mark) true false = stops
-  climbs now (Hold byte mark) false false = stops
-  climbs now (ReadyToSend any ended) false true = on _ (omega arith) (omega arith) refl
-  climbs now (ReadyToSend any false) false false = on _ (omega arith) (omega arith) refl
-  climbs now (ReadyToSend any true) false false = on _ (omega arith) (omega arith) refl
-  climbs now (ReadyToSend any ended) true d = stops
-  climbs now (ReadyForData any since) true d = if-below _ _ _ _ _ (on _ (omega arith) (omega arith) (stays-same d)) stops
-  climbs now (ReadyForData any since) false true = if-below _ _ _ _ _ stops (on _ (omega arith) (omega arith) refl)
-  climbs now (ReadyForData any since) false false = if-below _ _ _ _ _ (on _ (omega arith) (omega arith) refl) stops
-  climbs now (Acknowledgement any ready since) true d = stops
-  climbs now (Acknowledgement any ready since) false true = if-below _ _ _ _ _ (on _ (omega arith) (omega arith) refl) stops
-  climbs now (Acknowledgement any ready since) false false = if-below _ _ _ _ _ stops (on _ (omega arith) (omega arith) refl)
-  climbs now (Acknowledged any ready since) false true = stops
-  climbs now (Acknowledged any ready since) true d = if-upTo _ _ _ _ _ (on _ (omega arith) (omega arith) (stays-same d)) stops
-  climbs now (Acknowledged any ready since) false false =
+  climbs-row now Start false d = either (eqb now 0) _ _ stops stops
+  climbs-row now Start true true = on _ (omega arith) (omega arith) refl
+  climbs-row now Start true false = if-below _ _ _ _ _ (on _ (omega arith) (omega arith) refl) stops
+  climbs-row now FirstHold true true = on _ (omega arith) (omega arith) refl
+  climbs-row now FirstHold false true = on _ (omega arith) (omega arith) refl
+  climbs-row now FirstHold true false = stops
+  climbs-row now FirstHold false false = stops
+  climbs-row now (Hold byte mark) true true = on _ (omega arith) (omega arith) refl
+  climbs-row now (Hold byte mark) false true = if-below _ _ _ _ _ stops (over _ _ (omega arith) (omega arith) refl)
+  climbs-row now (Hold byte mark) true false = stops
+  climbs-row now (Hold byte mark) false false = stops
+  climbs-row now (ReadyToSend any ended) false true = on _ (omega arith) (omega arith) refl
+  climbs-row now (ReadyToSend any false) false false = on _ (omega arith) (omega arith) refl
+  climbs-row now (ReadyToSend any true) false false = on _ (omega arith) (omega arith) refl
+  climbs-row now (ReadyToSend any ended) true d = stops
+  climbs-row now (ReadyForData any since) true d = if-below _ _ _ _ _ (on _ (omega arith) (omega arith) (stays-same d)) stops
+  climbs-row now (ReadyForData any since) false true = if-below _ _ _ _ _ stops (on _ (omega arith) (omega arith) refl)
+  climbs-row now (ReadyForData any since) false false = if-below _ _ _ _ _ (on _ (omega arith) (omega arith) refl) stops
+  climbs-row now (Acknowledgement any ready since) true d = stops
+  climbs-row now (Acknowledgement any ready since) false true = if-below _ _ _ _ _ (on _ (omega arith) (omega arith) refl) stops
+  climbs-row now (Acknowledgement any ready since) false false = if-below _ _ _ _ _ stops (on _ (omega arith) (omega arith) refl)
+  climbs-row now (Acknowledged any ready since) false true = stops
+  climbs-row now (Acknowledged any ready since) true d = if-upTo _ _ _ _ _ (on _ (omega arith) (omega arith) (stays-same d)) stops
+  climbs-row now (Acknowledged any ready since) false false =
       if-below _ _ _ _ _ (on _ (omega arith) (omega arith) refl) (either any _ _ stops stops)
-  climbs now (SetUp mark left value since last) true d = if-below _ _ _ _ _ (on _ (omega arith) (omega arith) (stays-same d)) stops
-  climbs now (SetUp mark left value since last) false d =
+  climbs-row now (SetUp mark left value since last) true d = if-below _ _ _ _ _ (on _ (omega arith) (omega arith) (stays-same d)) stops
+  climbs-row now (SetUp mark left value since last) false d =
       if-same _ _ _ _ (λ e. on _ (omega arith) (omega arith) (stays-same d)) stops
-  climbs now (Valid mark left value since bit) false d =
+  climbs-row now (Valid mark left value since bit) false d =
       if-same _ _ _ _ (λ e. if-below _ _ _ _ _ (on _ (omega arith) (omega arith) e) stops) stops
-  climbs now (Valid mark (suc left) value since bit) true d = if-below _ _ _ _ _ stops (on _ (omega arith) (omega arith) (stays-same d))
-  climbs now (Valid mark zero value since bit) true false = if-below _ _ _ _ _ stops (on _ (omega arith) (omega arith) refl)
-  climbs now (Valid mark zero value since true) true true = if-below _ _ _ _ _ stops (on _ (omega arith) (omega arith) refl)
-  climbs now (Valid mark zero value since false) true true = if-below _ _ _ _ _ stops stops
-  climbs now (Open mark value since let-go) false d = stops
-  climbs now (Open mark value since let-go) true false = if-below _ _ _ _ _ (on _ (omega arith) (omega arith) refl) stops
-  climbs now (Open mark value since let-go) true true = on _ (omega arith) (omega arith) refl
-  climbs now (Carried mark value since) false false = stops
-  climbs now (Carried mark value since) true true = on _ (omega arith) (omega arith) refl
-  climbs now (Carried mark value since) true false = if-upTo _ _ _ _ _ (on _ (omega arith) (omega arith) refl) stops
-  climbs now (Carried mark value since) false true = if-upTo _ _ _ _ _ stops (over _ _ (omega arith) (omega arith) refl)
-  climbs now (End finish) false false = on _ (omega arith) (omega arith) refl
-  climbs now (End finish) false true = stops
-  climbs now (End finish) true d = stops
-  climbs now (Decided fault) c d = stops
+  climbs-row now (Valid mark (suc left) value since bit) true d = if-below _ _ _ _ _ stops (on _ (omega arith) (omega arith) (stays-same d))
+  climbs-row now (Valid mark zero value since bit) true false = if-below _ _ _ _ _ stops (on _ (omega arith) (omega arith) refl)
+  climbs-row now (Valid mark zero value since true) true true = if-below _ _ _ _ _ stops (on _ (omega arith) (omega arith) refl)
+  climbs-row now (Valid mark zero value since false) true true = if-below _ _ _ _ _ stops stops
+  climbs-row now (Open mark value since let-go) false d = stops
+  climbs-row now (Open mark value since let-go) true false = if-below _ _ _ _ _ (on _ (omega arith) (omega arith) refl) stops
+  climbs-row now (Open mark value since let-go) true true = on _ (omega arith) (omega arith) refl
+  climbs-row now (Carried mark value since) false false = stops
+  climbs-row now (Carried mark value since) true true = on _ (omega arith) (omega arith) refl
+  climbs-row now (Carried mark value since) true false = if-upTo _ _ _ _ _ (on _ (omega arith) (omega arith) refl) stops
+  climbs-row now (Carried mark value since) false true = if-upTo _ _ _ _ _ stops (over _ _ (omega arith) (omega arith) refl)
+  climbs-row now (End finish) false false = on _ (omega arith) (omega arith) refl
+  climbs-row now (End finish) false true = stops
+  climbs-row now (End finish) true d = stops
+  climbs-row now (Decided fault) c d = stops
+
+  pub climbs : (now : ℕ) (p : Phase) (l : Lines) → Climbs (place p + further (settled p l)) (latest p now) l (move L now p l)
+  unfolding move
+  climbs now p l = by-atn (l .atn) (l .clk) (l .«data»)
+    where
+      by-atn : (a c d : Bool)
+          → let l : Lines = record { atn = a; clk = c; «data» = d } in
+          Climbs (place p + further (settled p l)) (latest p now) l (if a then Stop Attention else next L now p c d)
+      by-atn true c d = stops
+      by-atn false c d = climbs-row now p c d

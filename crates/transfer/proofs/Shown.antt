@@ -16,7 +16,7 @@ use Rattle.transfer.specs.Demand3.{Consistent}
 use Rattle.transfer.specs.declared.limits.Limits.{Limits}
 use Rattle.transfer.specs.declared.lines.Lines.{Lines}
 use Rattle.transfer.specs.declared.phase.Byte.{Byte}
-use Rattle.transfer.proofs.Run.{lines}
+use Rattle.transfer.proofs.Rows.{lines}
 use Rattle.transfer.proofs.Forward.{shows}
 use Rattle.transfer.proofs.HandoverTicks.{handoverTicks, frameTicks, frame-ticks}
 use Rattle.transfer.proofs.Shapes.{clockKept, Tidy}

@@ -5,10 +5,9 @@ pub mod Limits
 pub mod Offsets
 pub mod Phases
 pub mod Verdicts
-pub mod States
+pub mod Moves
 pub mod Outcome
-pub mod TickLaws
-pub mod Idle
+pub mod DecisionTicks
 pub mod Spans
 pub mod SampleSpans
 pub mod Parties

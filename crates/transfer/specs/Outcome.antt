@@ -1,38 +1,45 @@
--- The outcome of a tick list: verdict, deciding tick, the bytes handed over and for each its two ledger ticks.
-use mathlib.Core.List.{List, [], _∷_, _++_}
-use lib.Dec.{eqb}
-use Rattle.transfer.specs.Choice.{if_then_else_}
-use Rattle.transfer.specs.States.{firstState, nextState, decisionOf}
+-- The outcome of a tick list: verdict, deciding tick, the bytes handed over and for each its two ledger ticks. "Reading goes from state to
+-- state, one tick after another, and stops for good at the deciding tick."
+use Prim.Native.Nat.{ℕ, suc}
+use mathlib.Core.List.{List, [], _∷_}
+use Rattle.transfer.specs.Phases.{Move, Go, Hand, Stop}
+use Rattle.transfer.specs.Moves.{move, decisionOf}
+use Rattle.transfer.specs.Verdicts.{brokenAt}
 use Rattle.transfer.specs.declared.limits.Limits.{Limits}
 use Rattle.transfer.specs.declared.lines.Lines.{Lines}
 use Rattle.transfer.specs.declared.phase.Byte.{Byte}
-use Rattle.transfer.specs.declared.state.State.{State}
+use Rattle.transfer.specs.declared.phase.Phase.{Phase}
+use Rattle.transfer.specs.declared.phase.Phase.the-variants.{Start}
 use Rattle.transfer.specs.declared.verdict.Decision.{Decision}
+use Rattle.transfer.specs.declared.verdict.Fault.{Fault}
 
 -- A verdict with its deciding tick, and the ledger: each byte handed over with its two ticks.
 pub record Outcome : Type 0 where
   pub decision : Decision
   pub bytes : List Byte
 
--- The state after the ticks.
-unfoldable pub stateAfter : Limits → State → List Lines → State
-stateAfter L s [] = s
-stateAfter L s (l ∷ w) = stateAfter L (nextState L s l) w
+-- A verdict falls: the tick that decides is the verdict's, whatever ticks follow.
+abbrev pub decided : Fault → (now : ℕ) → Outcome
+decided fault now = record { decision = brokenAt fault now; bytes = [] }
 
--- The byte that a tick from s to t handed over, if it did: the count rose.
-abbrev pub handedIn : (s t : State) → List Byte
-handedIn s t = if eqb (t .count) (s .count) then [] else (t .handed ∷ [])
+-- The ticks run out in a phase.
+abbrev pub ended : Phase → (now : ℕ) → Outcome
+ended phase now = record { decision = decisionOf phase now; bytes = [] }
 
--- The bytes that the ticks hand over, in order.
-unfoldable pub handedOver : Limits → State → List Lines → List Byte
-handedOver L s [] = []
-handedOver L s (l ∷ w) = handedIn s (nextState L s l) ++ handedOver L (nextState L s l) w
+-- A byte is handed over, and then the rest.
+abbrev pub give : Byte → Outcome → Outcome
+give b o = record { decision = o .decision; bytes = b ∷ o .bytes }
 
--- The outcome of the ticks that are read from a state on.
-abbrev pub outcomeFrom : Limits → State → List Lines → Outcome
-outcomeFrom L s w =
-    let end = stateAfter L s w in
-    record { decision = decisionOf (end .phase) (end .tick); bytes = handedOver L s w }
+-- What a move comes to, by what the phase that it leads to comes to.
+abbrev pub onward : Move → (now : ℕ) → (Phase → Outcome) → Outcome
+onward (Go p) now rest = rest p
+onward (Hand b p) now rest = give b (rest p)
+onward (Stop f) now rest = decided f now
 
-unfoldable pub outcome : Limits → List Lines → Outcome
-outcome L w = outcomeFrom L firstState w
+-- The ticks that are read in a phase, the first of them `now`.
+unfoldable pub run : Limits → (now : ℕ) → Phase → List Lines → Outcome
+run L now p [] = ended p now
+run L now p (l ∷ w) = onward (move L now p l) now (λ (q : Phase). run L (suc now) q w)
+
+abbrev pub outcome : Limits → List Lines → Outcome
+outcome L w = run L 0 Start w

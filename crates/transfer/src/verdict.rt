@@ -37,7 +37,7 @@ pub struct Decision {
 
 impl Decision {
     // Complete, at the finish tick.
-    pub(crate) fn complete(finish: u32) -> Decision
+    pub fn complete(finish: u32) -> Decision
         ensures { λ r. ⌜ r ≡ completeAt finish ⌝ }
     {
         Decision {
@@ -47,7 +47,7 @@ impl Decision {
     }
 
     // Cut, at the total of ticks.
-    pub(crate) fn cut(total: u32) -> Decision
+    pub fn cut(total: u32) -> Decision
         ensures { λ r. ⌜ r ≡ cutAt total ⌝ }
     {
         Decision {
@@ -57,7 +57,7 @@ impl Decision {
     }
 
     // Broken, at the tick that decided.
-    pub(crate) fn broken(fault: Fault, tick: u32) -> Decision
+    pub fn broken(fault: Fault, tick: u32) -> Decision
         ensures { λ r. ⌜ r ≡ brokenAt fault tick ⌝ }
     {
         Decision {

@@ -9,8 +9,8 @@ use Rattle.recording.specs.Ticks.{ticks}
 use Rattle.transfer.specs.Limits.{standardLimits}
 use Rattle.transfer.specs.Offsets.{below, upTo}
 use Rattle.transfer.specs.Phases.{next, same, withBit, handover, afterBit}
-use Rattle.transfer.specs.States.{follow, nextState}
-use Rattle.transfer.specs.Outcome.{stateAfter, handedOver, outcome}
+use Rattle.transfer.specs.Moves.{move}
+use Rattle.transfer.specs.Outcome.{run, outcome}
 use Rattle.transfer.specs.Parties.{planBytes}
 use Rattle.transfer.specs.Pair.{senderTrack, receiverTrack}
 use Rattle.transfer.specs.Demand3.{CompleteWith, Explained}
@@ -67,5 +67,5 @@ module _ (first : ℕ) (others : List ℕ) (bytes : Bytes (first ∷ others)) wh
 
 -- No bytes: 21 at tick 762, and none handed over, by one computation.
 pub empty-outcome : outcome standardLimits (writtenLines standardCard []) ≡ record { decision = brokenAt EmptyStream 762; bytes = [] }
-unfolding below upTo next same withBit handover afterBit follow nextState stateAfter handedOver outcome ticks writtenSteps
+unfolding below upTo next same withBit handover afterBit move run ticks writtenSteps
 empty-outcome = refl

@@ -12,7 +12,7 @@ use Rattle.transfer.specs.Choice.{if_then_else_}
 use Rattle.transfer.specs.Lines.{linesOf}
 use Rattle.transfer.specs.Parties.{Pulls, pulls, nobody, held, clock, clockHeld, sets, offers, bitsTrack, frameTrack, track}
 use Rattle.transfer.specs.Pair.{senderPulls, receiverPulls, gives}
-use Rattle.transfer.proofs.Run.{lines}
+use Rattle.transfer.proofs.Rows.{lines}
 use Rattle.transfer.proofs.Forward.{shows as onBus}
 use Rattle.transfer.proofs.HandoverTicks.{frame-ticks}
 use Rattle.transfer.proofs.Plans.{handover-is}

@@ -1,0 +1,188 @@
+-- Idle ticks: after a tick that goes on, the same lines keep the phase until its own limit. Assumes nothing.
+use Prim.Native.Nat.{ℕ, zero, suc, _+_, _-_, _<_, _≤_}
+use native.Mathlib.Omega.{arith}
+use mathlib.Core.Path.{_≡_, refl, sym, ap, _∙_}
+use mathlib.Core.Bool.{Bool, true, false, false≢true, not, _&&_}
+use mathlib.Core.List.{_++_}
+use lib.Dec.{ltb}
+use lib.ListN.{replicate}
+use borrow.Author.Tests.{lt-ltb, le-ltb, ltb-true, ltb-false, eq-eqb}
+use Rattle.transfer.specs.Choice.{if_then_else_}
+use Rattle.transfer.specs.Offsets.{below}
+use Rattle.transfer.specs.Phases.{Move, Go, Hand, Stop, next, same}
+use Rattle.transfer.specs.Moves.{isDecided, move}
+use Rattle.reader.specs.States.{follow, nextState}
+use Rattle.reader.specs.After.{stateAfter, handedIn, handedOver}
+use Rattle.reader.specs.Idle.{ticksBelow, idleTicks, later, Idle, IdleLaw}
+use Rattle.transfer.specs.declared.limits.Limits.{Limits}
+use Rattle.transfer.specs.declared.lines.Lines.{Lines}
+use Rattle.transfer.specs.declared.phase.Phase.{Phase}
+use Rattle.transfer.specs.declared.phase.Phase.the-variants.{Start, FirstHold, Hold, ReadyToSend, ReadyForData}
+use Rattle.transfer.specs.declared.phase.Phase.the-variants.{Acknowledgement, Acknowledged, SetUp, Valid, Open, Carried}
+use Rattle.transfer.specs.declared.phase.Phase.the-variants.{End, Decided}
+use Rattle.reader.specs.declared.state.State.{State}
+use Rattle.transfer.specs.declared.verdict.Fault.the-variants.{Attention}
+use Rattle.transfer.proofs.Rows.{Climbs, stops, goes, hands, climbs, rests, settled}
+
+-- The ticks below an offset, counted.
+pub all-below : (n since now most : ℕ) → now + most < since + n → most ≡ ticksBelow n since now most
+unfolding ticksBelow
+all-below n since now most h = rw (lt-ltb (now + most) (since + n) h)
+
+pub some-below : (n since now most : ℕ) → since + n ≤ now + most → since + n - now ≡ ticksBelow n since now most
+unfolding ticksBelow
+some-below n since now most h = rw (le-ltb (now + most) (since + n) h)
+
+-- There are no more than were asked for, and each of them is below it.
+few-below : (n since now most : ℕ) → ticksBelow n since now most ≤ most
+unfolding ticksBelow
+few-below n since now most = by-test (ltb (now + most) (since + n)) refl
+  where
+    by-test : (t : Bool) → ltb (now + most) (since + n) ≡ t → (if t then most else since + n - now) ≤ most
+    by-test true e = omega arith
+    by-test false e = omega (arith, ltb-false (now + most) (since + n) e)
+
+each-below : (n since now most j : ℕ) → j < ticksBelow n since now most → below n since (now + j) ≡ true
+unfolding ticksBelow below
+each-below n since now most j = by-test (ltb (now + most) (since + n)) refl
+  where
+    by-test : (t : Bool) → ltb (now + most) (since + n) ≡ t → j < (if t then most else since + n - now) → ltb (now + j) (since + n) ≡ true
+    by-test true e h = lt-ltb (now + j) (since + n) (omega (arith, ltb-true (now + most) (since + n) e))
+    by-test false e h = lt-ltb (now + j) (since + n) (omega arith)
+
+-- The phase that an arm was told.
+pub idle-told : (L : Limits) (now most : ℕ) {p q : Phase} → p ≡ q → idleTicks L q now most ≡ idleTicks L p now most
+idle-told L now most e = sym (ap (λ (p : Phase). idleTicks L p now most) e)
+
+few-idle : (L : Limits) (p : Phase) (now most : ℕ) → idleTicks L p now most ≤ most
+few-idle L Start now most = few-below _ _ now most
+few-idle L FirstHold now most = omega arith
+few-idle L (Hold byte mark) now most = omega arith
+few-idle L (ReadyToSend any ended) now most = omega arith
+few-idle L (ReadyForData any since) now most = few-below _ _ now most
+few-idle L (Acknowledgement any ready since) now most = few-below _ _ now most
+few-idle L (Acknowledged any ready since) now most = few-below _ _ now most
+few-idle L (SetUp mark left value since last) now most = few-below _ _ now most
+few-idle L (Valid mark left value since bit) now most = few-below _ _ now most
+few-idle L (Open mark value since let-go) now most = few-below _ _ now most
+few-idle L (Carried mark value since) now most = omega arith
+few-idle L (End finish) now most = omega arith
+few-idle L (Decided fault) now most = omega arith
+
+same-is : (a b : Bool) → same a b ≡ true → b ≡ a
+unfolding same
+same-is true b e = e
+same-is false true e = absurd (false≢true e)
+same-is false false e = refl
+
+-- The lines that a phase is settled in keep it at each idle tick.
+kept-row : (L : Limits) (p : Phase) (c d : Bool) (now most j : ℕ) → rests p c d ≡ true → j < idleTicks L p now most
+    → next L (now + j) p c d ≡ Go p
+unfolding next
+kept-row L Start true false now most j e h = rw (each-below _ _ _ _ j h)
+kept-row L Start true true now most j e h = absurd (false≢true e)
+kept-row L Start false d now most j e h = absurd (false≢true e)
+kept-row L FirstHold true true now most j e h = refl
+kept-row L FirstHold true false now most j e h = absurd (false≢true e)
+kept-row L FirstHold false d now most j e h = absurd (false≢true e)
+kept-row L (Hold byte mark) true true now most j e h = refl
+kept-row L (Hold byte mark) true false now most j e h = absurd (false≢true e)
+kept-row L (Hold byte mark) false d now most j e h = absurd (false≢true e)
+kept-row L (ReadyToSend any ended) false true now most j e h = refl
+kept-row L (ReadyToSend any ended) false false now most j e h = absurd (false≢true e)
+kept-row L (ReadyToSend any ended) true d now most j e h = absurd (false≢true e)
+kept-row L (ReadyForData any since) false false now most j e h = rw (each-below _ _ _ _ j h)
+kept-row L (ReadyForData any since) false true now most j e h = absurd (false≢true e)
+kept-row L (ReadyForData any since) true d now most j e h = absurd (false≢true e)
+kept-row L (Acknowledgement any ready since) false true now most j e h = rw (each-below _ _ _ _ j h)
+kept-row L (Acknowledgement any ready since) false false now most j e h = absurd (false≢true e)
+kept-row L (Acknowledgement any ready since) true d now most j e h = absurd (false≢true e)
+kept-row L (Acknowledged any ready since) false false now most j e h = rw (each-below _ _ _ _ j h)
+kept-row L (Acknowledged any ready since) false true now most j e h = absurd (false≢true e)
+kept-row L (Acknowledged any ready since) true d now most j e h = absurd (false≢true e)
+kept-row L (SetUp mark left value since last) true d now most j e h =
+    rw (each-below _ _ _ _ j h) (ap (λ (b : Bool). Go (SetUp mark left value since b)) (same-is last d e))
+kept-row L (SetUp mark left value since last) false d now most j e h = absurd (false≢true e)
+kept-row L (Valid mark left value since bit) false d now most j e h = rw (e, each-below _ _ _ _ j h)
+kept-row L (Valid mark left value since bit) true d now most j e h = absurd (false≢true e)
+kept-row L (Open mark value since let-go) true false now most j e h = rw (each-below _ _ _ _ j h)
+kept-row L (Open mark value since let-go) true true now most j e h = absurd (false≢true e)
+kept-row L (Open mark value since let-go) false d now most j e h = absurd (false≢true e)
+kept-row L (Carried mark value since) true true now most j e h = refl
+kept-row L (Carried mark value since) true false now most j e h = absurd (false≢true e)
+kept-row L (Carried mark value since) false d now most j e h = absurd (false≢true e)
+kept-row L (End finish) false false now most j e h = refl
+kept-row L (End finish) false true now most j e h = absurd (false≢true e)
+kept-row L (End finish) true d now most j e h = absurd (false≢true e)
+kept-row L (Decided fault) c d now most j e h = absurd (false≢true e)
+
+kept : (L : Limits) (p : Phase) (l : Lines) (now most j : ℕ) → settled p l ≡ true → j < idleTicks L p now most
+    → move L (now + j) p l ≡ Go p
+unfolding move
+kept L p l now most j = by-atn (l .atn) (l .clk) (l .«data»)
+  where
+    by-atn : (a c d : Bool) → (not a && rests p c d) ≡ true → j < idleTicks L p now most
+        → (if a then Stop Attention else next L (now + j) p c d) ≡ Go p
+    by-atn true c d e h = absurd (false≢true e)
+    by-atn false c d e h = kept-row L p c d now most j e h
+
+-- A tick that decided nothing led to a phase that its lines are settled in.
+module _ (L : Limits) (s : State) (l : Lines) where
+  moved : {most late : ℕ} (x : Move) → Climbs most late l x → isDecided (follow s x .phase) ≡ false → settled (follow s x .phase) l ≡ true
+  unfolding follow
+  moved (Stop f) stops u = absurd (false≢true (sym u))
+  moved (Go p) (goes m f e) u = e
+  moved (Hand b p) (hands m f e) u = e
+
+  led : isDecided (nextState L s l .phase) ≡ false → settled (nextState L s l .phase) l ≡ true
+  unfolding nextState
+  led = by-test (isDecided (s .phase)) refl
+    where
+      by-test : (v : Bool) → isDecided (s .phase) ≡ v
+          → isDecided ((if v then s else follow s (move L (s .tick) (s .phase) l)) .phase) ≡ false
+          → settled ((if v then s else follow s (move L (s .tick) (s .phase) l)) .phase) l ≡ true
+      by-test true ev u = absurd (false≢true (sym u ∙ ev))
+      by-test false ev u = moved _ (climbs L (s .tick) (s .phase) l) u
+
+-- The same state at another tick.
+abbrev at-tick : State → ℕ → State
+at-tick s n = record { phase = s .phase; tick = n; count = s .count; handed = s .handed }
+
+-- A tick that keeps the phase.
+one-later : (L : Limits) (l : Lines) (s : State) (j : ℕ) → isDecided (s .phase) ≡ false
+    → move L (s .tick + j) (s .phase) l ≡ Go (s .phase) → nextState L (later s j) l ≡ later s (suc j)
+unfolding nextState follow
+one-later L l s j u e = rw (u, e) (ap (at-tick s) (omega arith))
+
+-- Ticks that each keep the phase, one after another.
+idles : (L : Limits) (l : Lines) (k : ℕ) (s : State) → ((j : ℕ) → j < k → nextState L (later s j) l ≡ later s (suc j)) → Idle L s l k
+unfolding stateAfter handedOver
+idles L l zero s e =
+    let none : s ≡ later s 0 = ap (at-tick s) (omega arith) in
+    record { state = λ w. ap (λ (t : State). stateAfter L t w) none; bytes = λ w. ap (λ (t : State). handedOver L t w) none }
+idles L l (suc k) s e =
+    let none : s .tick + 0 ≡ s .tick = omega arith in
+    let first : nextState L s l ≡ later s 1 = ap (λ n. nextState L (at-tick s n) l) (sym none) ∙ e 0 (omega arith) in
+    let each : (j : ℕ) → j < k → nextState L (later (later s 1) j) l ≡ later (later s 1) (suc j) = λ j h.
+    ap (λ n. nextState L (at-tick s n) l) (omega arith) ∙ e (suc j) (omega arith) ∙ ap (at-tick s) (omega arith) in
+    let rest = idles L l k (later s 1) each in
+    let further : later (later s 1) k ≡ later s (suc k) = ap (at-tick s) (omega arith) in
+    record {
+      state = λ w.
+          ap (λ (t : State). stateAfter L t (replicate k l ++ w)) first
+          ∙ rest .state w
+          ∙ ap (λ (t : State). stateAfter L t w) further;
+      bytes = λ w.
+          ap (λ (t : State). handedIn s t ++ handedOver L t (replicate k l ++ w)) first
+          ∙ rw (eq-eqb (s .count) (s .count) refl) (rest .bytes w ∙ ap (λ (t : State). handedOver L t w) further);
+    }
+
+pub idle-law : IdleLaw
+idle-law L s l most =
+    let t = nextState L s l in
+    record {
+      few = few-idle L (t .phase) (t .tick) most;
+      idle = λ u.
+          let at = led L s l u in
+          idles L l _ t (λ j h. one-later L l t j u (kept L (t .phase) l (t .tick) most j at h));
+    }

@@ -1,0 +1,88 @@
+-- What the states come to is the outcome of specs/Outcome.antt of the crate below, where what follows a tick is a function of the phase
+-- alone. Assumes nothing.
+use Prim.Native.Nat.{ℕ, suc, _+_}
+use native.Mathlib.Omega.{arith}
+use native.Mathlib.Numerals.{add-one}
+use mathlib.Core.Path.{_≡_, refl, sym, ap, ap₂, _∙_}
+use mathlib.Core.Bool.{true, false}
+use mathlib.Core.List.{List, [], _∷_, _++_}
+use borrow.Author.Tests.{eq-eqb, ne-eqb}
+use Rattle.transfer.specs.Choice.{if_then_else_}
+use Rattle.transfer.specs.Phases.{Move, Go, Hand, Stop}
+use Rattle.transfer.specs.Moves.{move, isDecided, decisionOf}
+use Rattle.transfer.specs.Outcome.{Outcome, decided, give, onward, run, outcome}
+use Rattle.transfer.specs.declared.limits.Limits.{Limits}
+use Rattle.transfer.specs.declared.lines.Lines.{Lines}
+use Rattle.transfer.specs.declared.phase.Byte.{Byte}
+use Rattle.transfer.specs.declared.phase.Phase.{Phase}
+use Rattle.transfer.specs.declared.phase.Phase.the-variants.{Start}
+use Rattle.transfer.specs.declared.verdict.Fault.{Fault}
+use Rattle.transfer.proofs.Rows.{Climbs, stops, goes, hands, climbs, settled}
+use Rattle.transfer.proofs.Undecided.{undecided}
+use Rattle.reader.specs.States.{firstState, follow, nextState}
+use Rattle.reader.specs.After.{stateAfter, handedIn, handedOver, outcomeFrom, OutcomeLaw}
+use Rattle.reader.specs.declared.state.State.{State}
+use Rattle.reader.proofs.TickLaws.{stands as decided-stands}
+
+module _ (L : Limits) where
+  -- A verdict stands, whatever ticks follow.
+  stands : (f : Fault) (s : State) (w : List Lines) → outcomeFrom L (follow s (Stop f)) w ≡ decided f (s .tick)
+  unfolding follow
+  stands f s w =
+      let same = decided-stands L (follow s (Stop f)) w refl in
+      ap₂ (λ (t : State) (bytes : List Byte). record { decision = decisionOf (t .phase) (t .tick); bytes = bytes }) (same .state)
+      (same .bytes)
+
+  -- The outcome where a tick led from s to t.
+  abbrev past : (s t : State) → List Lines → Outcome
+  past s t w = record { decision = outcomeFrom L t w .decision; bytes = handedIn s t ++ outcomeFrom L t w .bytes }
+
+  tick-read : (s t : State) (l : Lines) (w : List Lines) → nextState L s l ≡ t → outcomeFrom L s (l ∷ w) ≡ past s t w
+  unfolding stateAfter handedOver
+  tick-read s t l w e = ap (λ (x : State). past s x w) e
+
+  -- The byte that a tick handed over, by the counts.
+  none-handed : (s t : State) (w : List Lines) → t .count ≡ s .count → past s t w ≡ outcomeFrom L t w
+  none-handed s t w e = rw (eq-eqb (t .count) (s .count) e)
+
+  one-handed : (s t : State) (w : List Lines) → (t .count ≡ s .count → ⊥) → past s t w ≡ give (t .handed) (outcomeFrom L t w)
+  one-handed s t w e = rw (ne-eqb (t .count) (s .count) e)
+
+  stopped : (f : Fault) (s : State) (w : List Lines) → past s (follow s (Stop f)) w ≡ decided f (s .tick)
+  unfolding follow
+  stopped f s w = none-handed s (follow s (Stop f)) w refl ∙ stands f s w
+
+  -- In a state that is not decided, the outcome is the run from its tick and its phase.
+  abbrev Runs : List Lines → Type 0
+  Runs w = (s : State) → isDecided (s .phase) ≡ false → outcomeFrom L s w ≡ run L (s .tick) (s .phase) w
+
+  module _ (w : List Lines) (ih : Runs w) (s : State) where
+    abbrev beyond : Phase → Outcome
+    beyond p = run L (suc (s .tick)) p w
+
+    next-run : (p : Phase) (n : ℕ) (b : Byte) (l : Lines) → settled p l ≡ true
+        → outcomeFrom L (record { phase = p; tick = s .tick + 1; count = n; handed = b }) w ≡ beyond p
+    next-run p n b l e =
+        ih (record { phase = p; tick = s .tick + 1; count = n; handed = b }) (undecided p l e)
+        ∙ ap (λ (t : ℕ). run L t p w) (add-one (s .tick))
+
+    moved : {most late : ℕ} {l : Lines} (x : Move) → Climbs most late l x → past s (follow s x) w ≡ onward x (s .tick) beyond
+    unfolding follow
+    moved (Stop f) stops = stopped f s w
+    moved {l = l} (Go p) (goes a f e) = none-handed s (follow s (Go p)) w refl ∙ next-run p _ _ l e
+    moved {l = l} (Hand b p) (hands a f e) =
+        one-handed s (follow s (Hand b p)) w (λ z. omega (arith, z)) ∙ ap (give b) (next-run p _ _ l e)
+
+    one-more : isDecided (s .phase) ≡ false → (l : Lines)
+        → outcomeFrom L s (l ∷ w) ≡ onward (move L (s .tick) (s .phase) l) (s .tick) beyond
+    unfolding nextState
+    one-more u l =
+        tick-read s (follow s (move L (s .tick) (s .phase) l)) l w (rw u) ∙ moved _ (climbs L (s .tick) (s .phase) l)
+
+  outcome-run : (w : List Lines) → Runs w
+  unfolding run stateAfter handedOver
+  outcome-run [] s u = refl
+  outcome-run (l ∷ w) s u = one-more w (outcome-run w) s u l
+
+pub outcome-states : OutcomeLaw
+outcome-states L w = sym (outcome-run L w firstState refl)

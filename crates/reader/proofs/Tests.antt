@@ -1,0 +1,82 @@
+-- What a proof searches with where the table goes by a line, a time or the bits left. Assumes nothing.
+use Prim.Native.Nat.{ℕ, zero, suc, _-_}
+use native.Mathlib.Omega.{arith}
+use mathlib.Core.Path.{_≡_, refl, sym, ap, _∙_}
+use mathlib.Core.Bool.{Bool, true, false}
+use borrow.Author.Tests.{eq-eqb, ne-eqb}
+use Rattle.transfer.specs.Offsets.{below, upTo}
+use Rattle.transfer.specs.Phases.{Move, same, afterBit}
+use Rattle.transfer.specs.Moves.{decisionOf}
+use Rattle.reader.specs.States.{readIn}
+use Rattle.transfer.specs.declared.lines.Lines.{Lines}
+use Rattle.transfer.specs.declared.limits.Limits.{Limits}
+use Rattle.reader.specs.declared.state.State.{State}
+use Rattle.transfer.specs.declared.phase.Phase.{Phase}
+
+pub clk-on : (l : Lines) → l .clk ≡ true → l .clk ≡ true
+clk-on l e = e
+
+pub clk-off : (l : Lines) → l .clk ≡ false → l .clk ≡ false
+clk-off l e = e
+
+pub data-on : (l : Lines) → l .«data» ≡ true → l .«data» ≡ true
+data-on l e = e
+
+pub data-off : (l : Lines) → l .«data» ≡ false → l .«data» ≡ false
+data-off l e = e
+
+pub below-on : (n s t : ℕ) → below n s t ≡ true → below n s t ≡ true
+below-on n s t e = e
+
+pub below-off : (n s t : ℕ) → below n s t ≡ false → below n s t ≡ false
+below-off n s t e = e
+
+pub upTo-on : (n s t : ℕ) → upTo n s t ≡ true → upTo n s t ≡ true
+upTo-on n s t e = e
+
+pub upTo-off : (n s t : ℕ) → upTo n s t ≡ false → upTo n s t ≡ false
+upTo-off n s t e = e
+
+pub same-on : (a b : Bool) → same a b ≡ true → same a b ≡ true
+same-on a b e = e
+
+pub same-off : (a b : Bool) → same a b ≡ false → same a b ≡ false
+same-off a b e = e
+
+pub last-bit : (n : ℕ) (x : Move) (f : ℕ → Move) → n ≡ 0 → afterBit n x f ≡ x
+unfolding afterBit
+last-bit n x f e = ap (λ k. afterBit k x f) e
+
+pub more-bits : (n : ℕ) (x : Move) (f : ℕ → Move) → (n ≡ 0 → ⊥) → afterBit n x f ≡ f (n - 1)
+unfolding afterBit
+more-bits zero x f e = absurd (e refl)
+more-bits (suc n) x f e = ap f (omega arith)
+
+-- An arm was told the phase that the state is in: what the arm returns by its rows is what the state's rows give.
+pub told : (L : Limits) (s : State) (l : Lines) {p q : Phase} {r : State} → p ≡ q → r ≡ readIn L s q l → r ≡ readIn L s p l
+told L s l e f = f ∙ sym (ap (λ (p : Phase). readIn L s p l) e)
+
+pub decision-told : (tick : ℕ) {p q : Phase} → p ≡ q → decisionOf q tick ≡ decisionOf p tick
+decision-told tick e = sym (ap (λ (p : Phase). decisionOf p tick) e)
+
+-- A call's result is what the definition tests.
+pub via : {b r v : Bool} → r ≡ b → r ≡ v → b ≡ v
+via e f = sym e ∙ f
+
+pub ruleset tests = (
+  clk-on,
+  clk-off,
+  data-on,
+  data-off,
+  below-on,
+  below-off,
+  upTo-on,
+  upTo-off,
+  same-on,
+  same-off,
+  last-bit,
+  more-bits,
+  via,
+  eq-eqb,
+  ne-eqb,
+)

@@ -1,0 +1,36 @@
+-- A tick list read from a state on.
+use mathlib.Core.Path.{_≡_}
+use mathlib.Core.List.{List, [], _∷_, _++_}
+use lib.Dec.{eqb}
+use Rattle.transfer.specs.Choice.{if_then_else_}
+use Rattle.transfer.specs.Moves.{decisionOf}
+use Rattle.transfer.specs.Outcome.{Outcome, outcome}
+use Rattle.transfer.specs.declared.limits.Limits.{Limits}
+use Rattle.transfer.specs.declared.lines.Lines.{Lines}
+use Rattle.transfer.specs.declared.phase.Byte.{Byte}
+use Rattle.reader.specs.States.{firstState, nextState}
+use Rattle.reader.specs.declared.state.State.{State}
+
+-- The state after the ticks.
+unfoldable pub stateAfter : Limits → State → List Lines → State
+stateAfter L s [] = s
+stateAfter L s (l ∷ w) = stateAfter L (nextState L s l) w
+
+-- The byte that a tick from s to t handed over, if it did: the count rose.
+abbrev pub handedIn : (s t : State) → List Byte
+handedIn s t = if eqb (t .count) (s .count) then [] else (t .handed ∷ [])
+
+-- The bytes that the ticks hand over, in order.
+unfoldable pub handedOver : Limits → State → List Lines → List Byte
+handedOver L s [] = []
+handedOver L s (l ∷ w) = handedIn s (nextState L s l) ++ handedOver L (nextState L s l) w
+
+-- The outcome of the ticks that are read from a state on.
+abbrev pub outcomeFrom : Limits → State → List Lines → Outcome
+outcomeFrom L s w =
+    let end = stateAfter L s w in
+    record { decision = decisionOf (end .phase) (end .tick); bytes = handedOver L s w }
+
+-- What the states come to from tick 0 on is the outcome of the tick list.
+abbrev pub OutcomeLaw : Type 0
+OutcomeLaw = (L : Limits) (w : List Lines) → outcome L w ≡ outcomeFrom L firstState w

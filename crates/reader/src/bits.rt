@@ -1,0 +1,88 @@
+// The eight bits of a byte, least significant first: set-up and valid.
+ghost use mathlib.Core.Path.{_≡_};
+ghost use Rattle.transfer.specs.Phases.{same, withBit};
+ghost use Rattle.reader.specs.States.{readIn, Countable};
+use crate::offset::below;
+use crate::state::State;
+use transfer::Fault;
+use transfer::Limits;
+use transfer::Lines;
+use transfer::Phase;
+
+// Both pulled or both released.
+fn same(a: bool, b: bool) -> bool
+    ensures { λ r. ⌜ r ≡ same a b ⌝ }
+{
+    if a {
+        return b;
+    }
+    !b
+}
+
+// The bits so far, least significant first, and one more: it comes in at the top, and eight bring the first to the bottom.
+fn with_bit(value: u8, bit: bool) -> u8
+    ensures { λ r. ⌜ r ≡ withBit value bit ⌝ }
+{
+    if bit {
+        return value / 2 + 128;
+    }
+    value / 2
+}
+
+impl State {
+    // Set-up: CLK pulled, DATA free.
+    pub(crate) fn set_up(
+        self,
+        limits: Limits,
+        mark: bool,
+        left: u8,
+        value: u8,
+        since: u32,
+        last: bool,
+        lines: Lines,
+    ) -> State
+        requires { ⌜ Countable self ⌝ }
+        ensures { λ r. ⌜ r ≡ readIn limits self (Phase.SetUp mark left value since last) lines ⌝ }
+    {
+        let now = self.tick;
+        if lines.clk {
+            let stay = Phase::SetUp(mark, left, value, since, lines.data);
+            return self.go_below(limits.set_up_most, since, stay, Fault::ClockStall);
+        }
+        if same(last, lines.data) {
+            return self.go(Phase::Valid(mark, left, value, now, lines.data));
+        }
+        self.stop(Fault::DataMoved)
+    }
+
+    // Valid: CLK released, DATA steady.
+    pub(crate) fn valid(
+        self,
+        limits: Limits,
+        mark: bool,
+        left: u8,
+        value: u8,
+        since: u32,
+        bit: bool,
+        lines: Lines,
+    ) -> State
+        requires { ⌜ Countable self ⌝ }
+        ensures { λ r. ⌜ r ≡ readIn limits self (Phase.Valid mark left value since bit) lines ⌝ }
+    {
+        let now = self.tick;
+        if lines.clk {
+            if below(limits.valid_least, since, now) {
+                return self.stop(Fault::ValidTimeShort);
+            }
+            if left == 0 {
+                return self.handover(mark, with_bit(value, bit), bit, lines.data);
+            }
+            return self.go(Phase::SetUp(mark, left - 1, with_bit(value, bit), now, lines.data));
+        }
+        if same(bit, lines.data) {
+            let stay = Phase::Valid(mark, left, value, since, bit);
+            return self.go_below(limits.valid_most, since, stay, Fault::ClockStall);
+        }
+        self.stop(Fault::DataMoved)
+    }
+}

@@ -1,0 +1,186 @@
+// The state of the reading, and one tick of it.
+ghost use mathlib.Core.Path.{_≡_};
+ghost use Rattle.transfer.specs.Choice.{if_then_else_};
+ghost use Rattle.transfer.specs.Offsets.{below, upTo};
+ghost use Rattle.transfer.specs.Moves.{isDecided, decisionOf};
+ghost use Rattle.transfer.specs.Phases.{Go, Hand, Stop};
+ghost use Rattle.reader.specs.States.{follow, readIn, nextState, firstState, Countable};
+use crate::offset::below;
+use crate::offset::up_to;
+use transfer::Byte;
+use transfer::Decision;
+use transfer::Fault;
+use transfer::Limits;
+use transfer::Lines;
+use transfer::Phase;
+
+// `tick` is the next tick to be read, or the deciding one; `count` bytes were handed over, `handed` last.
+pub struct State {
+    pub phase: Phase,
+    pub tick: u32,
+    pub count: u32,
+    pub handed: Byte,
+}
+
+impl State {
+    pub fn new() -> State
+        ensures { λ r. ⌜ r ≡ firstState ⌝ }
+    {
+        State {
+            phase: Phase::Start,
+            tick: 0,
+            count: 0,
+            handed: Byte {
+                value: 0,
+                let_go: 0,
+                take: 0,
+            },
+        }
+    }
+
+    // The tick leads on into a phase, or keeps it.
+    pub(crate) fn go(self, phase: Phase) -> State
+        requires { ⌜ Countable self ⌝ }
+        ensures { λ r. ⌜ r ≡ follow self (Go phase) ⌝ }
+    {
+        let handed = self.handed;
+        State {
+            phase,
+            tick: self.tick + 1,
+            count: self.count,
+            handed,
+        }
+    }
+
+    // The tick hands a byte over and leads on into a phase.
+    pub(crate) fn hand(self, byte: Byte, phase: Phase) -> State
+        requires { ⌜ Countable self ⌝ }
+        ensures { λ r. ⌜ r ≡ follow self (Hand byte phase) ⌝ }
+    {
+        State {
+            phase,
+            tick: self.tick + 1,
+            count: self.count + 1,
+            handed: byte,
+        }
+    }
+
+    // The tick decides.
+    pub(crate) fn stop(self, fault: Fault) -> State
+        ensures { λ r. ⌜ r ≡ follow self (Stop fault) ⌝ }
+    {
+        let handed = self.handed;
+        State {
+            phase: Phase::Decided(fault),
+            tick: self.tick,
+            count: self.count,
+            handed,
+        }
+    }
+
+    // The tick leads on into a phase if it is fewer than `limit` ticks after `since`, and otherwise decides.
+    pub(crate) fn go_below(self, limit: u32, since: u32, phase: Phase, fault: Fault) -> State
+        requires { ⌜ Countable self ⌝ }
+        ensures { λ r. ⌜ r ≡ follow self (if below limit since (self .tick) then Go phase else Stop fault) ⌝ }
+    {
+        if below(limit, since, self.tick) {
+            return self.go(phase);
+        }
+        self.stop(fault)
+    }
+
+    // The other way round: it decides if it is fewer than `limit` ticks after `since`, and otherwise leads on.
+    pub(crate) fn go_from(self, limit: u32, since: u32, fault: Fault, phase: Phase) -> State
+        requires { ⌜ Countable self ⌝ }
+        ensures { λ r. ⌜ r ≡ follow self (if below limit since (self .tick) then Stop fault else Go phase) ⌝ }
+    {
+        if below(limit, since, self.tick) {
+            return self.stop(fault);
+        }
+        self.go(phase)
+    }
+
+    // The tick leads on into a phase if it is at most `limit` ticks after `since`, and otherwise decides.
+    pub(crate) fn go_up_to(self, limit: u32, since: u32, phase: Phase, fault: Fault) -> State
+        requires { ⌜ Countable self ⌝ }
+        ensures { λ r. ⌜ r ≡ follow self (if upTo limit since (self .tick) then Go phase else Stop fault) ⌝ }
+    {
+        if up_to(limit, since, self.tick) {
+            return self.go(phase);
+        }
+        self.stop(fault)
+    }
+
+    // The rows of the phase that the state is in, for a tick with ATN released.
+    fn rows(self, limits: Limits, lines: Lines) -> State
+        requires { ⌜ Countable self ⌝ }
+        ensures { λ r. ⌜ r ≡ readIn limits self (self .phase) lines ⌝ }
+    {
+        let phase = self.phase;
+        match phase {
+            Phase::Start => self.start(limits, lines),
+            Phase::FirstHold => self.first_hold(limits, lines),
+            Phase::Hold(byte, mark) => self.hold(limits, byte, mark, lines),
+            Phase::ReadyToSend(any, ended) => self.ready_to_send(limits, any, ended, lines),
+            Phase::ReadyForData(any, since) => self.ready_for_data(limits, any, since, lines),
+            Phase::Acknowledgement(any, ready, since) => {
+                self.acknowledgement(limits, any, ready, since, lines)
+            }
+            Phase::Acknowledged(any, ready, since) => {
+                self.acknowledged(limits, any, ready, since, lines)
+            }
+            Phase::SetUp(mark, left, value, since, last) => {
+                self.set_up(limits, mark, left, value, since, last, lines)
+            }
+            Phase::Valid(mark, left, value, since, bit) => {
+                self.valid(limits, mark, left, value, since, bit, lines)
+            }
+            Phase::Open(mark, value, since, let_go) => {
+                self.open(limits, mark, value, since, let_go, lines)
+            }
+            Phase::Carried(mark, value, since) => self.carried(limits, mark, value, since, lines),
+            Phase::End(finish) => self.end(limits, finish, lines),
+            Phase::Decided(fault) => self.stop(fault),
+        }
+    }
+
+    // One tick. A verdict stands for good; then ATN comes before anything else.
+    pub fn next(self, limits: Limits, lines: Lines) -> State
+        requires { ⌜ Countable self ⌝ }
+        ensures { λ r. ⌜ r ≡ nextState limits self lines ⌝ }
+    {
+        if self.is_decided() {
+            return self;
+        }
+        if lines.atn {
+            return self.stop(Fault::Attention);
+        }
+        self.rows(limits, lines)
+    }
+
+    // A verdict has fallen.
+    pub fn is_decided(self) -> bool
+        ensures { λ r. ⌜ r ≡ isDecided (self .phase) ⌝ }
+    {
+        let phase = self.phase;
+        if let Phase::Decided(..) = phase {
+            return true;
+        }
+        false
+    }
+
+    // What the recording comes to if it runs out here.
+    pub fn decision(self) -> Decision
+        ensures { λ r. ⌜ r ≡ decisionOf (self .phase) (self .tick) ⌝ }
+    {
+        let phase = self.phase;
+        let tick = self.tick;
+        if let Phase::End(finish) = phase {
+            return Decision::complete(finish);
+        }
+        if let Phase::Decided(fault) = phase {
+            return Decision::broken(fault, tick);
+        }
+        Decision::cut(tick)
+    }
+}
