@@ -5,28 +5,9 @@ use borrow.Author.Needs.{needs}
 use Rattle.reader.proofs.state.State.acknowledgement.Statement.{statement}
 use Rattle.reader.proofs.state.State.acknowledgement.Tie as tie
 
-stop-requires : tie.Need-stop-requires
-stop-requires c κs = search needs
-
-returns : tie.Need-returns
-unfolding next
-returns c = search tests
-
-go-below-requires : tie.Need-go-below-requires
-go-below-requires c κs = search needs
-
-returns-2 : tie.Need-returns-2
-unfolding next
-returns-2 c = search tests
-
-go-from-requires : tie.Need-go-from-requires
-go-from-requires c κs = search needs
-
-returns-3 : tie.Need-returns-3
-unfolding next
-returns-3 c = search tests
-
 pub acknowledgement-spec : {M : Type 1} → statement M
+unfolding next
 acknowledgement-spec =
     tie.close
-    (tie.spec stop-requires returns go-below-requires returns-2 go-from-requires returns-3)
+    (tie.spec (λ c κs. search needs) (λ c. search tests) (λ c κs. search needs) (λ c. search tests)
+    (λ c κs. search needs) (λ c. search tests))

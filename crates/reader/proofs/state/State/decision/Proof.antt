@@ -6,29 +6,14 @@ use borrow.Author.Needs.{needs}
 use Rattle.reader.proofs.state.State.decision.Statement.{statement}
 use Rattle.reader.proofs.state.State.decision.Tie as tie
 
-enum-known-phase : tie.Need-enum-known-phase
-enum-known-phase c = search needs
-
-complete-requires : tie.Need-complete-requires
-complete-requires c κs = search needs
-
 returns : tie.Need-returns
 returns c =
     c .complete .ensures ∙ decision-told (c .before .before .before .before .args .self .tick) (c .before .before .phase .given .1)
-
-enum-known-phase-2 : tie.Need-enum-known-phase-2
-enum-known-phase-2 c = search needs
-
-broken-requires : tie.Need-broken-requires
-broken-requires c κs = search needs
 
 returns-2 : tie.Need-returns-2
 returns-2 c =
     c .broken .ensures
     ∙ decision-told (c .before .before .before .before .before .args .self .tick) (c .before .before .phase2 .given .1)
-
-cut-requires : tie.Need-cut-requires
-cut-requires c κs = search needs
 
 returns-3 : tie.Need-returns-3
 returns-3 c =
@@ -38,12 +23,5 @@ returns-3 c =
 pub decision-spec : {M : Type 1} → statement M
 decision-spec =
     tie.close
-    (tie.spec
-    enum-known-phase
-    complete-requires
-    returns
-    enum-known-phase-2
-    broken-requires
-    returns-2
-    cut-requires
-    returns-3)
+    (tie.spec (λ c. search needs) (λ c κs. search needs) returns (λ c. search needs) (λ c κs. search needs) returns-2
+    (λ c κs. search needs) returns-3)

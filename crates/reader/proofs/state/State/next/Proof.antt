@@ -6,16 +6,6 @@ use borrow.Author.Needs.{needs}
 use Rattle.reader.proofs.state.State.next.Statement.{statement}
 use Rattle.reader.proofs.state.State.next.Tie as tie
 
-is-decided-requires : tie.Need-is-decided-requires
-is-decided-requires c κs = search needs
-
-returns : tie.Need-returns
-unfolding nextState move
-returns c = rw (sym (c .before .is-decided .ensures) ∙ c .if1 .taken)
-
-stop-requires : tie.Need-stop-requires
-stop-requires c κs = search needs
-
 returns-2 : tie.Need-returns-2
 unfolding nextState move
 returns-2 c = rw (
@@ -23,9 +13,6 @@ returns-2 c = rw (
       ∙ c .before .before .if1 .left,
   c .before .if2 .taken,
 ) (c .stop .ensures)
-
-rows-requires : tie.Need-rows-requires
-rows-requires c κs = search needs
 
 returns-3 : tie.Need-returns-3
 unfolding nextState move
@@ -36,6 +23,8 @@ returns-3 c = rw (
 ) (c .rows .ensures)
 
 pub next-spec : {M : Type 1} → statement M
+unfolding nextState move
 next-spec =
     tie.close
-    (tie.spec is-decided-requires returns stop-requires returns-2 rows-requires returns-3)
+    (tie.spec (λ c κs. search needs) (λ c. rw (sym (c .before .is-decided .ensures) ∙ c .if1 .taken))
+    (λ c κs. search needs) returns-2 (λ c κs. search needs) returns-3)

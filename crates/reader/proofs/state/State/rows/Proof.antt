@@ -5,84 +5,6 @@ use borrow.Author.Needs.{needs}
 use Rattle.reader.proofs.state.State.rows.Statement.{statement}
 use Rattle.reader.proofs.state.State.rows.Tie as tie
 
-enum-told : tie.Need-enum-told
-enum-told c = search needs
-
-start-requires : tie.Need-start-requires
-start-requires c κs = search needs
-
-enum-told-2 : tie.Need-enum-told-2
-enum-told-2 c = search needs
-
-first-hold-requires : tie.Need-first-hold-requires
-first-hold-requires c κs = search needs
-
-enum-known-phase : tie.Need-enum-known-phase
-enum-known-phase c = search needs
-
-hold-requires : tie.Need-hold-requires
-hold-requires c κs = search needs
-
-enum-known-phase-2 : tie.Need-enum-known-phase-2
-enum-known-phase-2 c = search needs
-
-ready-to-send-requires : tie.Need-ready-to-send-requires
-ready-to-send-requires c κs = search needs
-
-enum-known-phase-3 : tie.Need-enum-known-phase-3
-enum-known-phase-3 c = search needs
-
-ready-for-data-requires : tie.Need-ready-for-data-requires
-ready-for-data-requires c κs = search needs
-
-enum-known-phase-4 : tie.Need-enum-known-phase-4
-enum-known-phase-4 c = search needs
-
-acknowledgement-requires : tie.Need-acknowledgement-requires
-acknowledgement-requires c κs = search needs
-
-enum-known-phase-5 : tie.Need-enum-known-phase-5
-enum-known-phase-5 c = search needs
-
-acknowledged-requires : tie.Need-acknowledged-requires
-acknowledged-requires c κs = search needs
-
-enum-known-phase-6 : tie.Need-enum-known-phase-6
-enum-known-phase-6 c = search needs
-
-set-up-requires : tie.Need-set-up-requires
-set-up-requires c κs = search needs
-
-enum-known-phase-7 : tie.Need-enum-known-phase-7
-enum-known-phase-7 c = search needs
-
-valid-requires : tie.Need-valid-requires
-valid-requires c κs = search needs
-
-enum-known-phase-8 : tie.Need-enum-known-phase-8
-enum-known-phase-8 c = search needs
-
-open-requires : tie.Need-open-requires
-open-requires c κs = search needs
-
-enum-known-phase-9 : tie.Need-enum-known-phase-9
-enum-known-phase-9 c = search needs
-
-carried-requires : tie.Need-carried-requires
-carried-requires c κs = search needs
-
-enum-known-phase-10 : tie.Need-enum-known-phase-10
-enum-known-phase-10 c = search needs
-
-end-requires : tie.Need-end-requires
-end-requires c κs = search needs
-
-enum-known-phase-11 : tie.Need-enum-known-phase-11
-enum-known-phase-11 c = search needs
-
-stop-requires : tie.Need-stop-requires
-stop-requires c κs = search needs
-
 returns : tie.Need-returns
 returns c =
     let a = c .before .before .before .args in
@@ -152,43 +74,10 @@ returns-13 c =
 pub rows-spec : {M : Type 1} → statement M
 rows-spec =
     tie.close
-    (tie.spec
-    enum-told
-    start-requires
-    enum-told-2
-    first-hold-requires
-    enum-known-phase
-    hold-requires
-    enum-known-phase-2
-    ready-to-send-requires
-    enum-known-phase-3
-    ready-for-data-requires
-    enum-known-phase-4
-    acknowledgement-requires
-    enum-known-phase-5
-    acknowledged-requires
-    enum-known-phase-6
-    set-up-requires
-    enum-known-phase-7
-    valid-requires
-    enum-known-phase-8
-    open-requires
-    enum-known-phase-9
-    carried-requires
-    enum-known-phase-10
-    end-requires
-    enum-known-phase-11
-    stop-requires
-    returns
-    returns-2
-    returns-3
-    returns-4
-    returns-5
-    returns-6
-    returns-7
-    returns-8
-    returns-9
-    returns-10
-    returns-11
-    returns-12
-    returns-13)
+    (tie.spec (λ c. search needs) (λ c κs. search needs) (λ c. search needs) (λ c κs. search needs)
+    (λ c. search needs) (λ c κs. search needs) (λ c. search needs) (λ c κs. search needs) (λ c. search needs)
+    (λ c κs. search needs) (λ c. search needs) (λ c κs. search needs) (λ c. search needs) (λ c κs. search needs)
+    (λ c. search needs) (λ c κs. search needs) (λ c. search needs) (λ c κs. search needs) (λ c. search needs)
+    (λ c κs. search needs) (λ c. search needs) (λ c κs. search needs) (λ c. search needs) (λ c κs. search needs)
+    (λ c. search needs) (λ c κs. search needs) returns returns-2 returns-3 returns-4 returns-5 returns-6 returns-7
+    returns-8 returns-9 returns-10 returns-11 returns-12 returns-13)

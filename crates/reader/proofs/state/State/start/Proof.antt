@@ -5,43 +5,9 @@ use borrow.Author.Needs.{needs}
 use Rattle.reader.proofs.state.State.start.Statement.{statement}
 use Rattle.reader.proofs.state.State.start.Tie as tie
 
-go-requires : tie.Need-go-requires
-go-requires c κs = search needs
-
-returns : tie.Need-returns
-unfolding next
-returns c = search tests
-
-go-below-requires : tie.Need-go-below-requires
-go-below-requires c κs = search needs
-
-returns-2 : tie.Need-returns-2
-unfolding next
-returns-2 c = search tests
-
-stop-requires : tie.Need-stop-requires
-stop-requires c κs = search needs
-
-returns-3 : tie.Need-returns-3
-unfolding next
-returns-3 c = search tests
-
-stop-requires-2 : tie.Need-stop-requires-2
-stop-requires-2 c κs = search needs
-
-returns-4 : tie.Need-returns-4
-unfolding next
-returns-4 c = search tests
-
 pub start-spec : {M : Type 1} → statement M
+unfolding next
 start-spec =
     tie.close
-    (tie.spec
-    go-requires
-    returns
-    go-below-requires
-    returns-2
-    stop-requires
-    returns-3
-    stop-requires-2
-    returns-4)
+    (tie.spec (λ c κs. search needs) (λ c. search tests) (λ c κs. search needs) (λ c. search tests)
+    (λ c κs. search needs) (λ c. search tests) (λ c κs. search needs) (λ c. search tests))

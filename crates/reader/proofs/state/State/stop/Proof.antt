@@ -4,9 +4,8 @@ use Rattle.reader.specs.States.{follow}
 use Rattle.reader.proofs.state.State.stop.Statement.{statement}
 use Rattle.reader.proofs.state.State.stop.Tie as tie
 
-returns : tie.Need-returns
-unfolding follow
-returns c = search needs
-
 pub stop-spec : {M : Type 1} → statement M
-stop-spec = tie.close (tie.spec returns)
+unfolding follow
+stop-spec =
+    tie.close
+    (tie.spec (λ c. search needs))
