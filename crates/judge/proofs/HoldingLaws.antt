@@ -2,19 +2,21 @@
 use Prim.Native.Nat.{ℕ, zero, suc, _+_, _-_, _<_, _≤_}
 use mathlib.Core.Bool.{Bool, true, false}
 use mathlib.Core.List.{List, [], _∷_}
-use mathlib.Core.Path.{_≡_, refl, sym, ap, _∙_}
-use native.Mathlib.Nat.{sub-zero, zero-add}
+use mathlib.Core.Path.{_≡_, refl, sym, ap, subst, _∙_}
 use native.Mathlib.Omega.{arith}
 use lib.Dec.{ltb}
 use lib.ListN.{length}
 use borrow.Author.Tests.{ltb-true, ltb-false, lt-ltb, le-ltb}
 use Rattle.recording.specs.Choice.{if_then_else_}
 use Rattle.recording.specs.Layout.{headerAt, stepAt}
-use Rattle.recording.specs.Ticks.{stepsFrom, stepsOf, totalTicks}
+use Rattle.recording.specs.Ticks.{stepsFrom, stepsOf, totalTicks, ticksOf}
+use Rattle.recording.specs.GoodForm.{GoodForm}
+use Rattle.recording.specs.declared.header.Header.{Header}
 use Rattle.recording.specs.declared.step.Step.{Step}
-use Rattle.recording.proofs.StepLaws.{steps-begin, steps-end}
+use Rattle.recording.proofs.StepLaws.{steps-count, total-counts}
 use Rattle.judge.specs.Judged.{stepHolding}
 use Rattle.judge.specs.Mission.{Holds}
+use Rattle.judge.proofs.JudgedLaws.{good-steps}
 
 -- The first of some steps holds the tick, or it doesn't.
 first-holds : (tick : ℕ) (s : Step) (steps : List Step) → tick < s .duration → stepHolding tick (s ∷ steps) ≡ 0
@@ -57,33 +59,66 @@ module _ (file : List ℕ) where
       let r = holds-from (headerAt file .steps) 0 tick h in
       record { in-file = r .0; begun = r .1; not-over = r .2 }
 
--- No step holds the tick at the end.
-pub held-at-the-end : (steps : List Step) → stepHolding (totalTicks steps) steps ≡ length steps
+-- The step is the only one.
+module _ (file : List ℕ) where
+  one-more : (n i : ℕ) → totalTicks (stepsFrom file i (suc n)) ≡ totalTicks (stepsFrom file i n) + stepAt file (i + n) .duration
+  unfolding totalTicks stepsFrom
+  one-more zero i = let here : i + 0 ≡ i = omega arith in rw here (omega arith)
+  one-more (suc n) i = let there : i + suc n ≡ suc i + n = omega arith in rw there (omega (arith, one-more n (suc i)))
+
+  is-held : (k n i tick : ℕ) → k < n → totalTicks (stepsFrom file i k) ≤ tick → tick < totalTicks (stepsFrom file i (suc k))
+      → stepHolding tick (stepsFrom file i n) ≡ k
+  unfolding totalTicks stepsFrom
+  is-held k zero i tick h a b = absurd (omega arith)
+  is-held zero (suc n) i tick h a b = first-holds tick _ _ (omega arith)
+  is-held (suc k) (suc n) i tick h a b =
+      later-holds tick _ _ (omega arith)
+      ∙ ap suc (is-held k n (suc i) (tick - stepAt file i .duration) (omega arith) (omega arith) (omega arith))
+
+-- No step holds the tick at the end, nor a later one.
+past-the-end : (tick : ℕ) (steps : List Step) → totalTicks steps ≤ tick → stepHolding tick steps ≡ length steps
 unfolding totalTicks stepHolding
-held-at-the-end [] = refl
-held-at-the-end (s ∷ steps) =
-    let rest : s .duration + totalTicks steps - s .duration ≡ totalTicks steps = omega arith in
-    later-holds _ s steps (omega arith) ∙ rw (rest, held-at-the-end steps)
+past-the-end tick [] h = refl
+past-the-end tick (s ∷ steps) h = later-holds tick s steps (omega arith) ∙ ap suc (past-the-end (tick - s .duration) steps (omega arith))
 
--- The search, at step i of n with `end` ticks before it. Before the first step all are left.
-pub all-left : (file : List ℕ) (tick n : ℕ)
-    → stepHolding tick (stepsFrom file 0 n) ≡ 0 + stepHolding (tick - 0) (stepsFrom file 0 (n - 0))
-all-left file tick n = rw (sub-zero tick, sub-zero n) (sym (zero-add (stepHolding tick (stepsFrom file 0 n))))
+pub held-at-the-end : (steps : List Step) → stepHolding (totalTicks steps) steps ≡ length steps
+held-at-the-end steps = past-the-end (totalTicks steps) steps (omega arith)
 
-module _ (file : List ℕ) (tick i n end : ℕ) (before : end ≤ tick) where
-  pub held-here : (s : Step) → s ≡ stepAt file i → i < n → tick < end + s .duration
-      → stepHolding (tick - end) (stepsFrom file i (n - i)) ≡ 0
-  held-here s e h t = ap (stepHolding (tick - end)) (steps-begin file i n s e h) ∙ first-holds _ s _ (omega arith)
+-- The search, back from the end of the n steps.
+module _ (file : List ℕ) (n tick : ℕ) where
+  -- i steps are still before it, which end at tick `end`: if the tick is none of theirs, the step that begins there holds it.
+  pub record Back (i end : ℕ) : Type 0 where
+    pub few : i ≤ n
+    pub ends : end ≡ totalTicks (stepsFrom file 0 i)
+    pub held : end ≤ tick → stepHolding tick (stepsFrom file 0 n) ≡ i
 
-  pub held-later : (s : Step) → s ≡ stepAt file i → i < n → end + s .duration ≤ tick
-      → stepHolding (tick - end) (stepsFrom file i (n - i))
-      ≡ suc (stepHolding (tick - (end + s .duration)) (stepsFrom file (i + 1) (n - (i + 1))))
-  held-later s e h t =
-      let z : tick - end - s .duration ≡ tick - (end + s .duration) = omega arith in
-      ap (stepHolding (tick - end)) (steps-begin file i n s e h)
-      ∙ later-holds _ s _ (omega arith)
-      ∙ ap (λ (m : ℕ). suc (stepHolding m (stepsFrom file (i + 1) (n - (i + 1))))) z
+  pub all-before : GoodForm file n → (h : Header) → h ≡ headerAt file → Back n (h .total)
+  unfolding ticksOf
+  all-before good h e =
+      let total : h .total ≡ totalTicks (stepsFrom file 0 n) =
+      ap (λ (x : Header). x .total) e ∙ good .total ∙ sym (total-counts (stepsOf file)) ∙ ap totalTicks (good-steps file n good) in
+      record { few = omega arith; ends = total; held = λ p. past-the-end tick _ (omega (arith, total)) ∙ steps-count file n 0 }
 
-  pub held-nowhere : n ≤ i → stepHolding (tick - end) (stepsFrom file i (n - i)) ≡ 0
-  unfolding stepHolding
-  held-nowhere h = ap (stepHolding (tick - end)) (steps-end file i n h)
+  -- The last of them, where the tick is before its end.
+  pub some-before : (i end : ℕ) → Back i end → tick < end → 1 ≤ i
+  unfolding stepsFrom totalTicks
+  some-before zero end b h = absurd (omega (arith, b .ends))
+  some-before (suc i) end b h = omega arith
+
+  pub step-before : (i end : ℕ) (s : Step) → Back i end → tick < end → s ≡ stepAt file (i - 1)
+      → (s .duration ≤ end) × Back (i - 1) (end - s .duration)
+  step-before i end s b h e =
+      let k = i - 1 in
+      let one : suc k ≡ i = omega (arith, some-before i end b h) in
+      let here : 0 + k ≡ k = omega arith in
+      let last : totalTicks (stepsFrom file 0 i) ≡ totalTicks (stepsFrom file 0 k) + s .duration =
+      ap (λ (j : ℕ). totalTicks (stepsFrom file 0 j)) (sym one) ∙ one-more file k 0 ∙ rw (here, e) in
+      let over : tick < totalTicks (stepsFrom file 0 (suc k)) =
+      subst (λ (j : ℕ). tick < totalTicks (stepsFrom file 0 j)) (sym one) (omega (arith, b .ends)) in (
+        omega (arith, last, b .ends),
+        record {
+          few = omega (arith, b .few);
+          ends = omega (arith, last, b .ends);
+          held = λ p. is-held file k n 0 tick (omega (arith, one, b .few)) (omega (arith, last, b .ends)) over;
+        },
+      )

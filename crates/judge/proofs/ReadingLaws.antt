@@ -11,7 +11,7 @@ use Rattle.reader.specs.Idle.{idleTicks, later, Idle, Counted}
 use Rattle.transfer.specs.Pair.{values}
 use Rattle.reader.specs.TickLaws.{OneTick}
 use Rattle.reader.specs.States.{firstState, nextState}
-use Rattle.transfer.specs.Moves.{isDecided}
+use Rattle.transfer.specs.Moves.{isDecided, heldByte}
 use Rattle.transfer.specs.declared.limits.Limits.{Limits}
 use Rattle.transfer.specs.declared.lines.Lines.{Lines}
 use Rattle.transfer.specs.declared.phase.Byte.{Byte}
@@ -49,8 +49,8 @@ module _ (L : Limits) where
       let one = subst (λ (u : State). OneTick s u) (sym e) (one-tick L s x) in
       ap (λ (u : State). reached (stateAfter L u w) (sets bytes (s .count) (values (handedIn s u ++ handedOver L u w)))
       (sets ledger (2 * s .count) (twoTicks (handedIn s u ++ handedOver L u w)))) (sym e)
-      ∙ ap₂ (λ (b g : List ℕ). reached (stateAfter L t w) b g) (byte-stored s t rest one bytes _ refl)
-      (ticks-stored s t rest one ledger _ refl)
+      ∙ ap₂ (λ (b g : List ℕ). reached (stateAfter L t w) b g) (byte-stored s t (heldByte (s .phase)) rest one bytes _ refl)
+      (ticks-stored s t (heldByte (s .phase)) rest one ledger _ refl)
 
   -- A tick is read.
   pub tick-read : (whole : Reached) (b₀ g₀ : List ℕ) (n m : ℕ) (x : Lines) (w w′ : List Lines) (s t : State) (b b′ g g′ : List ℕ)
@@ -67,6 +67,11 @@ module _ (L : Limits) where
         byte-places = byte-keeps-length b b′ s t eb ∙ k .byte-places;
         ledger-places = ticks-keep-length g g′ s t eg ∙ k .ledger-places;
       }
+
+  -- A byte that a tick hands over was taken by then.
+  pub taken-by : (s t : State) (x : Lines) → t ≡ nextState L s x → (t .count ≡ s .count → ⊥) → heldByte (s .phase) .take ≤ s .tick
+  taken-by s t x et =
+      subst (λ (u : State). (u .count ≡ s .count → ⊥) → heldByte (s .phase) .take ≤ s .tick) (sym et) (one-tick L s x .taken)
 
   -- A tick moves the state's tick on by one at most.
   pub tick-most : (s t : State) (x : Lines) → t ≡ nextState L s x → t .tick ≤ s .tick + 1

@@ -1,5 +1,6 @@
 -- The reading of a recording as its functions go: what each of them promises to the entry.
-use Prim.Native.Nat.{ℕ, _+_, _*_, _≤_}
+use Prim.Native.Nat.{ℕ, _+_, _*_, _^_, _≤_, _<_}
+use mathlib.Core.Path.{_≡_}
 use mathlib.Core.List.{List}
 use lib.Dec.{eqb}
 use lib.ListN.{length, set}
@@ -12,7 +13,7 @@ use Rattle.recording.specs.declared.step.Step.{Step}
 use Rattle.reader.specs.After.{stateAfter, handedOver}
 use Rattle.transfer.specs.Pair.{values}
 use Rattle.reader.specs.States.{firstState}
-use Rattle.transfer.specs.Moves.{decisionOf}
+use Rattle.transfer.specs.Moves.{heldByte, decisionOf}
 use Rattle.transfer.specs.declared.limits.Limits.{Limits}
 use Rattle.transfer.specs.declared.lines.Lines.{Lines}
 use Rattle.reader.specs.declared.state.State.{State}
@@ -20,12 +21,18 @@ use Rattle.judge.specs.Judged.{byteRoom, ledgerRoom, tickLines, twoTicks
 
 -- The byte buffer and the ledger after a tick from s to t: the byte that it handed over, if it did, stands at its place.
 abbrev pub withByte : (bytes : List ℕ) (s t : State) → List ℕ
-withByte bytes s t = if eqb (t .count) (s .count) then bytes else set bytes (s .count) (t .handed .value)
+withByte bytes s t = if eqb (t .count) (s .count) then bytes else set bytes (s .count) (heldByte (s .phase) .value)
 
 abbrev pub withTicks : (ledger : List ℕ) (s t : State) → List ℕ
 withTicks ledger s t =
     if eqb (t .count) (s .count) then ledger
-    else set (set ledger (2 * s .count) (t .handed .«let_go»)) (2 * s .count + 1) (t .handed .take)
+    else set (set ledger (2 * s .count) (heldByte (s .phase) .«let_go»)) (2 * s .count + 1) (heldByte (s .phase) .take)
+
+-- That byte has its places, and its ticks are 32-bit numbers.
+pub record Storable (bytes ledger : List ℕ) (s t : State) : Type 0 where
+  pub byte-place : s .count < length bytes
+  pub ledger-place : 2 * s .count + 1 < length ledger
+  pub take : (t .count ≡ s .count → ⊥) → heldByte (s .phase) .take < 2 ^ 32
 
 -- A file of n steps can be read, with enough room lent.
 pub record Readable (file : List ℕ) (n : ℕ) (bytes ledger : List ℕ) : Type 0 where

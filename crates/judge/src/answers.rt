@@ -1,36 +1,33 @@
 // The answer that a reading comes to.
 ghost use mathlib.Core.Path.{_≡_};
-ghost use Prim.Native.Nat.{_≤_};
-ghost use lib.ListN.{length};
-ghost use Rattle.recording.specs.Layout.{mostSteps, fileLength};
+ghost use Rattle.recording.specs.GoodForm.{GoodForm};
 ghost use Rattle.recording.specs.Ticks.{stepsFrom};
 ghost use Rattle.judge.specs.Judged.{stepHolding};
 ghost use Rattle.judge.specs.Reading.{stateAnswer};
 use answer::Answer;
 use reader::State;
+use recording::Header;
 use recording::Step;
 
-// The step that holds a tick, or the number of steps where none does.
+// The step that holds a tick, or the number of steps where none does: looked for back from the end, near which most verdicts fall.
 fn step_holding(file: &[u8], steps: usize, tick: u32) -> u32
-    requires { ⌜ (steps ≤ mostSteps) × (fileLength steps ≤ length (now file)) ⌝ }
+    requires { ⌜ GoodForm (now file) steps ⌝ }
     ensures { λ r. ⌜ r ≡ stepHolding tick (stepsFrom (now (file .entry)) 0 steps) ⌝ }
 {
-    let mut end: u32 = 0;
-    let mut index: usize = 0;
-    while index < steps {
+    let header = Header::read(file);
+    let mut begin = header.total;
+    let mut index = steps;
+    while tick < begin {
+        index -= 1;
         let step = Step::read(file, index);
-        end += step.duration as u32;
-        if tick < end {
-            return index as u32;
-        }
-        index += 1;
+        begin -= step.duration as u32;
     }
-    steps as u32
+    index as u32
 }
 
 // The answer where the recording runs out, or a verdict fell, in this state.
 pub(crate) fn state_answer(file: &[u8], steps: usize, state: State) -> Answer
-    requires { ⌜ (steps ≤ mostSteps) × (fileLength steps ≤ length (now file)) ⌝ }
+    requires { ⌜ GoodForm (now file) steps ⌝ }
     ensures { λ r. ⌜ r ≡ stateAnswer (stepsFrom (now (file .entry)) 0 steps) state ⌝ }
 {
     let decision = state.decision();

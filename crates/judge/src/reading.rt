@@ -28,8 +28,7 @@ pub(crate) fn read(
         while left > 0 {
             left -= 1;
             let next = state.next(limits, lines);
-            handed::store_byte(bytes, state, next);
-            handed::store_ticks(ledger, state, next);
+            handed::store(bytes, ledger, state, next);
             state = next;
             if next.is_decided() {
                 break 'steps;

@@ -57,15 +57,15 @@ idle-told L now most e = sym (ap (λ (p : Phase). idleTicks L p now most) e)
 few-idle : (L : Limits) (p : Phase) (now most : ℕ) → idleTicks L p now most ≤ most
 few-idle L Start now most = few-below _ _ now most
 few-idle L FirstHold now most = omega arith
-few-idle L (Hold byte mark) now most = omega arith
-few-idle L (ReadyToSend any ended) now most = omega arith
-few-idle L (ReadyForData any since) now most = few-below _ _ now most
-few-idle L (Acknowledgement any ready since) now most = few-below _ _ now most
-few-idle L (Acknowledged any ready since) now most = few-below _ _ now most
-few-idle L (SetUp mark left value since last) now most = few-below _ _ now most
-few-idle L (Valid mark left value since bit) now most = few-below _ _ now most
-few-idle L (Open mark value since let-go) now most = few-below _ _ now most
-few-idle L (Carried mark value since) now most = omega arith
+few-idle L (Hold end-mark value take let-go) now most = omega arith
+few-idle L (ReadyToSend some-handed ended) now most = omega arith
+few-idle L (ReadyForData some-handed since) now most = few-below _ _ now most
+few-idle L (Acknowledgement some-handed since ready-tick) now most = few-below _ _ now most
+few-idle L (Acknowledged some-handed since ready-tick) now most = few-below _ _ now most
+few-idle L (SetUp end-mark value last since bits-left) now most = few-below _ _ now most
+few-idle L (Valid end-mark value bit since bits-left) now most = few-below _ _ now most
+few-idle L (Open end-mark value since let-go) now most = few-below _ _ now most
+few-idle L (Carried end-mark value since) now most = omega arith
 few-idle L (End finish) now most = omega arith
 few-idle L (Decided fault) now most = omega arith
 
@@ -85,32 +85,32 @@ kept-row L Start false d now most j e h = absurd (false≢true e)
 kept-row L FirstHold true true now most j e h = refl
 kept-row L FirstHold true false now most j e h = absurd (false≢true e)
 kept-row L FirstHold false d now most j e h = absurd (false≢true e)
-kept-row L (Hold byte mark) true true now most j e h = refl
-kept-row L (Hold byte mark) true false now most j e h = absurd (false≢true e)
-kept-row L (Hold byte mark) false d now most j e h = absurd (false≢true e)
-kept-row L (ReadyToSend any ended) false true now most j e h = refl
-kept-row L (ReadyToSend any ended) false false now most j e h = absurd (false≢true e)
-kept-row L (ReadyToSend any ended) true d now most j e h = absurd (false≢true e)
-kept-row L (ReadyForData any since) false false now most j e h = rw (each-below _ _ _ _ j h)
-kept-row L (ReadyForData any since) false true now most j e h = absurd (false≢true e)
-kept-row L (ReadyForData any since) true d now most j e h = absurd (false≢true e)
-kept-row L (Acknowledgement any ready since) false true now most j e h = rw (each-below _ _ _ _ j h)
-kept-row L (Acknowledgement any ready since) false false now most j e h = absurd (false≢true e)
-kept-row L (Acknowledgement any ready since) true d now most j e h = absurd (false≢true e)
-kept-row L (Acknowledged any ready since) false false now most j e h = rw (each-below _ _ _ _ j h)
-kept-row L (Acknowledged any ready since) false true now most j e h = absurd (false≢true e)
-kept-row L (Acknowledged any ready since) true d now most j e h = absurd (false≢true e)
-kept-row L (SetUp mark left value since last) true d now most j e h =
-    rw (each-below _ _ _ _ j h) (ap (λ (b : Bool). Go (SetUp mark left value since b)) (same-is last d e))
-kept-row L (SetUp mark left value since last) false d now most j e h = absurd (false≢true e)
-kept-row L (Valid mark left value since bit) false d now most j e h = rw (e, each-below _ _ _ _ j h)
-kept-row L (Valid mark left value since bit) true d now most j e h = absurd (false≢true e)
-kept-row L (Open mark value since let-go) true false now most j e h = rw (each-below _ _ _ _ j h)
-kept-row L (Open mark value since let-go) true true now most j e h = absurd (false≢true e)
-kept-row L (Open mark value since let-go) false d now most j e h = absurd (false≢true e)
-kept-row L (Carried mark value since) true true now most j e h = refl
-kept-row L (Carried mark value since) true false now most j e h = absurd (false≢true e)
-kept-row L (Carried mark value since) false d now most j e h = absurd (false≢true e)
+kept-row L (Hold end-mark value take let-go) true true now most j e h = refl
+kept-row L (Hold end-mark value take let-go) true false now most j e h = absurd (false≢true e)
+kept-row L (Hold end-mark value take let-go) false d now most j e h = absurd (false≢true e)
+kept-row L (ReadyToSend some-handed ended) false true now most j e h = refl
+kept-row L (ReadyToSend some-handed ended) false false now most j e h = absurd (false≢true e)
+kept-row L (ReadyToSend some-handed ended) true d now most j e h = absurd (false≢true e)
+kept-row L (ReadyForData some-handed since) false false now most j e h = rw (each-below _ _ _ _ j h)
+kept-row L (ReadyForData some-handed since) false true now most j e h = absurd (false≢true e)
+kept-row L (ReadyForData some-handed since) true d now most j e h = absurd (false≢true e)
+kept-row L (Acknowledgement some-handed since ready-tick) false true now most j e h = rw (each-below _ _ _ _ j h)
+kept-row L (Acknowledgement some-handed since ready-tick) false false now most j e h = absurd (false≢true e)
+kept-row L (Acknowledgement some-handed since ready-tick) true d now most j e h = absurd (false≢true e)
+kept-row L (Acknowledged some-handed since ready-tick) false false now most j e h = rw (each-below _ _ _ _ j h)
+kept-row L (Acknowledged some-handed since ready-tick) false true now most j e h = absurd (false≢true e)
+kept-row L (Acknowledged some-handed since ready-tick) true d now most j e h = absurd (false≢true e)
+kept-row L (SetUp end-mark value last since bits-left) true d now most j e h =
+    rw (each-below _ _ _ _ j h) (ap (λ (b : Bool). Go (SetUp end-mark value b since bits-left)) (same-is last d e))
+kept-row L (SetUp end-mark value last since bits-left) false d now most j e h = absurd (false≢true e)
+kept-row L (Valid end-mark value bit since bits-left) false d now most j e h = rw (e, each-below _ _ _ _ j h)
+kept-row L (Valid end-mark value bit since bits-left) true d now most j e h = absurd (false≢true e)
+kept-row L (Open end-mark value since let-go) true false now most j e h = rw (each-below _ _ _ _ j h)
+kept-row L (Open end-mark value since let-go) true true now most j e h = absurd (false≢true e)
+kept-row L (Open end-mark value since let-go) false d now most j e h = absurd (false≢true e)
+kept-row L (Carried end-mark value since) true true now most j e h = refl
+kept-row L (Carried end-mark value since) true false now most j e h = absurd (false≢true e)
+kept-row L (Carried end-mark value since) false d now most j e h = absurd (false≢true e)
 kept-row L (End finish) false false now most j e h = refl
 kept-row L (End finish) false true now most j e h = absurd (false≢true e)
 kept-row L (End finish) true d now most j e h = absurd (false≢true e)
@@ -128,11 +128,11 @@ kept L p l now most j = by-atn (l .atn) (l .clk) (l .«data»)
 
 -- A tick that decided nothing led to a phase that its lines are settled in.
 module _ (L : Limits) (s : State) (l : Lines) where
-  moved : {most late : ℕ} (x : Move) → Climbs most late l x → isDecided (follow s x .phase) ≡ false → settled (follow s x .phase) l ≡ true
+  moved : {now : ℕ} {p : Phase} (x : Move) → Climbs now p l x → isDecided (follow s x .phase) ≡ false → settled (follow s x .phase) l ≡ true
   unfolding follow
   moved (Stop f) stops u = absurd (false≢true (sym u))
   moved (Go p) (goes m f e) u = e
-  moved (Hand b p) (hands m f e) u = e
+  moved (Hand b p) (hands m f e held taken) u = e
 
   led : isDecided (nextState L s l .phase) ≡ false → settled (nextState L s l .phase) l ≡ true
   unfolding nextState
@@ -146,7 +146,7 @@ module _ (L : Limits) (s : State) (l : Lines) where
 
 -- The same state at another tick.
 abbrev at-tick : State → ℕ → State
-at-tick s n = record { phase = s .phase; tick = n; count = s .count; handed = s .handed }
+at-tick s n = record { phase = s .phase; tick = n; count = s .count }
 
 -- A tick that keeps the phase.
 one-later : (L : Limits) (l : Lines) (s : State) (j : ℕ) → isDecided (s .phase) ≡ false

@@ -9,7 +9,7 @@ use mathlib.Core.List.{List, [], _∷_, _++_}
 use borrow.Author.Tests.{eq-eqb, ne-eqb}
 use Rattle.transfer.specs.Choice.{if_then_else_}
 use Rattle.transfer.specs.Phases.{Move, Go, Hand, Stop}
-use Rattle.transfer.specs.Moves.{move, isDecided, decisionOf}
+use Rattle.transfer.specs.Moves.{move, isDecided, heldByte, decisionOf}
 use Rattle.transfer.specs.Outcome.{Outcome, decided, give, onward, run, outcome}
 use Rattle.transfer.specs.declared.limits.Limits.{Limits}
 use Rattle.transfer.specs.declared.lines.Lines.{Lines}
@@ -45,7 +45,7 @@ module _ (L : Limits) where
   none-handed : (s t : State) (w : List Lines) → t .count ≡ s .count → past s t w ≡ outcomeFrom L t w
   none-handed s t w e = rw (eq-eqb (t .count) (s .count) e)
 
-  one-handed : (s t : State) (w : List Lines) → (t .count ≡ s .count → ⊥) → past s t w ≡ give (t .handed) (outcomeFrom L t w)
+  one-handed : (s t : State) (w : List Lines) → (t .count ≡ s .count → ⊥) → past s t w ≡ give (heldByte (s .phase)) (outcomeFrom L t w)
   one-handed s t w e = rw (ne-eqb (t .count) (s .count) e)
 
   stopped : (f : Fault) (s : State) (w : List Lines) → past s (follow s (Stop f)) w ≡ decided f (s .tick)
@@ -60,18 +60,18 @@ module _ (L : Limits) where
     abbrev beyond : Phase → Outcome
     beyond p = run L (suc (s .tick)) p w
 
-    next-run : (p : Phase) (n : ℕ) (b : Byte) (l : Lines) → settled p l ≡ true
-        → outcomeFrom L (record { phase = p; tick = s .tick + 1; count = n; handed = b }) w ≡ beyond p
-    next-run p n b l e =
-        ih (record { phase = p; tick = s .tick + 1; count = n; handed = b }) (undecided p l e)
+    next-run : (p : Phase) (n : ℕ) (l : Lines) → settled p l ≡ true
+        → outcomeFrom L (record { phase = p; tick = s .tick + 1; count = n }) w ≡ beyond p
+    next-run p n l e =
+        ih (record { phase = p; tick = s .tick + 1; count = n }) (undecided p l e)
         ∙ ap (λ (t : ℕ). run L t p w) (add-one (s .tick))
 
-    moved : {most late : ℕ} {l : Lines} (x : Move) → Climbs most late l x → past s (follow s x) w ≡ onward x (s .tick) beyond
+    moved : {l : Lines} (x : Move) → Climbs (s .tick) (s .phase) l x → past s (follow s x) w ≡ onward x (s .tick) beyond
     unfolding follow
     moved (Stop f) stops = stopped f s w
-    moved {l = l} (Go p) (goes a f e) = none-handed s (follow s (Go p)) w refl ∙ next-run p _ _ l e
-    moved {l = l} (Hand b p) (hands a f e) =
-        one-handed s (follow s (Hand b p)) w (λ z. omega (arith, z)) ∙ ap (give b) (next-run p _ _ l e)
+    moved {l = l} (Go p) (goes a f e) = none-handed s (follow s (Go p)) w refl ∙ next-run p _ l e
+    moved {l = l} (Hand b p) (hands a f e held taken) =
+        one-handed s (follow s (Hand b p)) w (λ z. omega (arith, z)) ∙ ap₂ give (sym held) (next-run p _ l e)
 
     one-more : isDecided (s .phase) ≡ false → (l : Lines)
         → outcomeFrom L s (l ∷ w) ≡ onward (move L (s .tick) (s .phase) l) (s .tick) beyond

@@ -1,12 +1,12 @@
 -- What a proof searches with where the table goes by a line, a time or the bits left. Assumes nothing.
-use Prim.Native.Nat.{ℕ, zero, suc, _-_}
+use Prim.Native.Nat.{ℕ, zero, suc, _-_, _<_, _^_}
 use native.Mathlib.Omega.{arith}
-use mathlib.Core.Path.{_≡_, refl, sym, ap, _∙_}
+use mathlib.Core.Path.{_≡_, refl, sym, ap, subst, _∙_}
 use mathlib.Core.Bool.{Bool, true, false}
 use borrow.Author.Tests.{eq-eqb, ne-eqb}
 use Rattle.transfer.specs.Offsets.{below, upTo}
 use Rattle.transfer.specs.Phases.{Move, same, afterBit}
-use Rattle.transfer.specs.Moves.{decisionOf}
+use Rattle.transfer.specs.Moves.{heldByte, decisionOf}
 use Rattle.reader.specs.States.{readIn}
 use Rattle.transfer.specs.declared.lines.Lines.{Lines}
 use Rattle.transfer.specs.declared.limits.Limits.{Limits}
@@ -58,6 +58,12 @@ told L s l e f = f ∙ sym (ap (λ (p : Phase). readIn L s p l) e)
 
 pub decision-told : (tick : ℕ) {p q : Phase} → p ≡ q → decisionOf q tick ≡ decisionOf p tick
 decision-told tick e = sym (ap (λ (p : Phase). decisionOf p tick) e)
+
+pub held-told : {p q : Phase} → p ≡ q → heldByte q ≡ heldByte p
+held-told e = sym (ap heldByte e)
+
+pub fits-told : {p q : Phase} → p ≡ q → heldByte p .take < 2 ^ 32 → heldByte q .take < 2 ^ 32
+fits-told e h = subst (λ (p : Phase). heldByte p .take < 2 ^ 32) e h
 
 -- A call's result is what the definition tests.
 pub via : {b r v : Bool} → r ≡ b → r ≡ v → b ≡ v

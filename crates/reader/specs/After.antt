@@ -3,7 +3,7 @@ use mathlib.Core.Path.{_≡_}
 use mathlib.Core.List.{List, [], _∷_, _++_}
 use lib.Dec.{eqb}
 use Rattle.transfer.specs.Choice.{if_then_else_}
-use Rattle.transfer.specs.Moves.{decisionOf}
+use Rattle.transfer.specs.Moves.{heldByte, decisionOf}
 use Rattle.transfer.specs.Outcome.{Outcome, outcome}
 use Rattle.transfer.specs.declared.limits.Limits.{Limits}
 use Rattle.transfer.specs.declared.lines.Lines.{Lines}
@@ -16,9 +16,9 @@ unfoldable pub stateAfter : Limits → State → List Lines → State
 stateAfter L s [] = s
 stateAfter L s (l ∷ w) = stateAfter L (nextState L s l) w
 
--- The byte that a tick from s to t handed over, if it did: the count rose.
+-- The byte that a tick from s to t handed over, if it did: the count rose, and the byte stood in the phase that the tick left.
 abbrev pub handedIn : (s t : State) → List Byte
-handedIn s t = if eqb (t .count) (s .count) then [] else (t .handed ∷ [])
+handedIn s t = if eqb (t .count) (s .count) then [] else (heldByte (s .phase) ∷ [])
 
 -- The bytes that the ticks hand over, in order.
 unfoldable pub handedOver : Limits → State → List Lines → List Byte

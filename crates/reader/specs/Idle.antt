@@ -27,21 +27,21 @@ ticksBelow n since now most = if ltb (now + most) (since + n) then most else sin
 abbrev pub idleTicks : Limits → Phase → (now most : ℕ) → ℕ
 idleTicks L Start now most = ticksBelow (L .presence) 0 now most
 idleTicks L FirstHold now most = most
-idleTicks L (Hold byte mark) now most = most
-idleTicks L (ReadyToSend any ended) now most = most
-idleTicks L (ReadyForData any since) now most = ticksBelow (L .«end_mark_latest») since now most
-idleTicks L (Acknowledgement any ready since) now most = ticksBelow (L .«acknowledge_most») since now most
-idleTicks L (Acknowledged any ready since) now most = ticksBelow (L .«sender_timeout») ready now most
-idleTicks L (SetUp mark left value since last) now most = ticksBelow (L .«set_up_most») since now most
-idleTicks L (Valid mark left value since bit) now most = ticksBelow (L .«valid_most») since now most
-idleTicks L (Open mark value since let-go) now most = ticksBelow (L .«take_latest») since now most
-idleTicks L (Carried mark value since) now most = most
+idleTicks L (Hold end-mark value take let-go) now most = most
+idleTicks L (ReadyToSend some-handed ended) now most = most
+idleTicks L (ReadyForData some-handed since) now most = ticksBelow (L .«end_mark_latest») since now most
+idleTicks L (Acknowledgement some-handed since ready-tick) now most = ticksBelow (L .«acknowledge_most») since now most
+idleTicks L (Acknowledged some-handed since ready-tick) now most = ticksBelow (L .«sender_timeout») ready-tick now most
+idleTicks L (SetUp end-mark value last since bits-left) now most = ticksBelow (L .«set_up_most») since now most
+idleTicks L (Valid end-mark value bit since bits-left) now most = ticksBelow (L .«valid_most») since now most
+idleTicks L (Open end-mark value since let-go) now most = ticksBelow (L .«take_latest») since now most
+idleTicks L (Carried end-mark value since) now most = most
 idleTicks L (End finish) now most = most
 idleTicks L (Decided fault) now most = most
 
 -- The same state, so many ticks later.
 abbrev pub later : State → (ticks : ℕ) → State
-later s ticks = record { phase = s .phase; tick = s .tick + ticks; count = s .count; handed = s .handed }
+later s ticks = record { phase = s .phase; tick = s .tick + ticks; count = s .count }
 
 -- So many ticks with these lines are idle: whatever follows is read as from the same state so many ticks later, and they hand nothing over.
 pub record Idle (L : Limits) (s : State) (l : Lines) (ticks : ℕ) : Type 0 where

@@ -11,13 +11,17 @@ use Rattle.reader.specs.declared.state.State.{State}
 
 -- Before tick 0.
 abbrev pub firstState : State
-firstState = record { phase = Start; tick = 0; count = 0; handed = record { value = 0; «let_go» = 0; take = 0 } }
+firstState = record { phase = Start; tick = 0; count = 0 }
+
+-- The state after a tick that hands a byte over: it is counted, and stands in the phase that the tick leaves.
+abbrev pub handedOn : State → Phase → State
+handedOn s phase = record { phase = phase; tick = s .tick + 1; count = s .count + 1 }
 
 -- The state after a move. A deciding tick is not passed: it stays the state's tick.
 unfoldable pub follow : State → Move → State
-follow s (Go phase) = record { phase = phase; tick = s .tick + 1; count = s .count; handed = s .handed }
-follow s (Hand byte phase) = record { phase = phase; tick = s .tick + 1; count = s .count + 1; handed = byte }
-follow s (Stop fault) = record { phase = Decided fault; tick = s .tick; count = s .count; handed = s .handed }
+follow s (Go phase) = record { phase = phase; tick = s .tick + 1; count = s .count }
+follow s (Hand byte phase) = handedOn s phase
+follow s (Stop fault) = record { phase = Decided fault; tick = s .tick; count = s .count }
 
 -- The state after a tick with ATN released that is read by the rows of a phase. The phase stands beside the state, so that the
 -- method of one phase can promise its rows.

@@ -3,7 +3,6 @@ ghost use mathlib.Core.Path.{_≡_};
 ghost use Rattle.reader.specs.States.{readIn, Countable};
 use crate::offset::below;
 use crate::state::State;
-use transfer::Byte;
 use transfer::Fault;
 use transfer::Limits;
 use transfer::Lines;
@@ -45,41 +44,55 @@ impl State {
     }
 
     // B, after a byte: entering C hands it over
-    pub(crate) fn hold(self, limits: Limits, byte: Byte, mark: bool, lines: Lines) -> State
+    pub(crate) fn hold(
+        self,
+        limits: Limits,
+        end_mark: bool,
+        value: u8,
+        take: u32,
+        let_go: u32,
+        lines: Lines,
+    ) -> State
         requires { ⌜ Countable self ⌝ }
-        ensures { λ r. ⌜ r ≡ readIn limits self (Phase.Hold byte mark) lines ⌝ }
+        ensures { λ r. ⌜ r ≡ readIn limits self (Phase.Hold «end_mark» value take «let_go») lines ⌝ }
     {
         let now = self.tick;
         if lines.clk {
             if lines.data {
-                return self.go(Phase::Hold(byte, mark));
+                return self.go(Phase::Hold(end_mark, value, take, let_go));
             }
             return self.stop(Fault::OutOfTurn);
         }
         if lines.data {
-            if below(limits.between_bytes, byte.take, now) {
+            if below(limits.between_bytes, take, now) {
                 return self.stop(Fault::Hurried);
             }
-            return self.hand(byte, Phase::ReadyToSend(true, mark));
+            return self.hand(Phase::ReadyToSend(true, end_mark));
         }
         self.stop(Fault::OutOfTurn)
     }
 
     // C
-    pub(crate) fn ready_to_send(self, limits: Limits, any: bool, ended: bool, lines: Lines) -> State
+    pub(crate) fn ready_to_send(
+        self,
+        limits: Limits,
+        some_handed: bool,
+        ended: bool,
+        lines: Lines,
+    ) -> State
         requires { ⌜ Countable self ⌝ }
-        ensures { λ r. ⌜ r ≡ readIn limits self (Phase.ReadyToSend any ended) lines ⌝ }
+        ensures { λ r. ⌜ r ≡ readIn limits self (Phase.ReadyToSend «some_handed» ended) lines ⌝ }
     {
         let now = self.tick;
         if lines.clk {
             return self.stop(Fault::OutOfTurn);
         }
         if lines.data {
-            return self.go(Phase::ReadyToSend(any, ended));
+            return self.go(Phase::ReadyToSend(some_handed, ended));
         }
         if ended {
             return self.go(Phase::End(now));
         }
-        self.go(Phase::ReadyForData(any, now))
+        self.go(Phase::ReadyForData(some_handed, now))
     }
 }

@@ -34,23 +34,23 @@ impl State {
     pub(crate) fn set_up(
         self,
         limits: Limits,
-        mark: bool,
-        left: u8,
+        end_mark: bool,
         value: u8,
-        since: u32,
         last: bool,
+        since: u32,
+        bits_left: u32,
         lines: Lines,
     ) -> State
         requires { ⌜ Countable self ⌝ }
-        ensures { λ r. ⌜ r ≡ readIn limits self (Phase.SetUp mark left value since last) lines ⌝ }
+        ensures { λ r. ⌜ r ≡ readIn limits self (Phase.SetUp «end_mark» value last since «bits_left») lines ⌝ }
     {
         let now = self.tick;
         if lines.clk {
-            let stay = Phase::SetUp(mark, left, value, since, lines.data);
+            let stay = Phase::SetUp(end_mark, value, lines.data, since, bits_left);
             return self.go_below(limits.set_up_most, since, stay, Fault::ClockStall);
         }
         if same(last, lines.data) {
-            return self.go(Phase::Valid(mark, left, value, now, lines.data));
+            return self.go(Phase::Valid(end_mark, value, lines.data, now, bits_left));
         }
         self.stop(Fault::DataMoved)
     }
@@ -59,28 +59,29 @@ impl State {
     pub(crate) fn valid(
         self,
         limits: Limits,
-        mark: bool,
-        left: u8,
+        end_mark: bool,
         value: u8,
-        since: u32,
         bit: bool,
+        since: u32,
+        bits_left: u32,
         lines: Lines,
     ) -> State
         requires { ⌜ Countable self ⌝ }
-        ensures { λ r. ⌜ r ≡ readIn limits self (Phase.Valid mark left value since bit) lines ⌝ }
+        ensures { λ r. ⌜ r ≡ readIn limits self (Phase.Valid «end_mark» value bit since «bits_left») lines ⌝ }
     {
         let now = self.tick;
         if lines.clk {
             if below(limits.valid_least, since, now) {
                 return self.stop(Fault::ValidTimeShort);
             }
-            if left == 0 {
-                return self.handover(mark, with_bit(value, bit), bit, lines.data);
+            let value = with_bit(value, bit);
+            if bits_left == 0 {
+                return self.handover(end_mark, value, bit, lines.data);
             }
-            return self.go(Phase::SetUp(mark, left - 1, with_bit(value, bit), now, lines.data));
+            return self.go(Phase::SetUp(end_mark, value, lines.data, now, bits_left - 1));
         }
         if same(bit, lines.data) {
-            let stay = Phase::Valid(mark, left, value, since, bit);
+            let stay = Phase::Valid(end_mark, value, bit, since, bits_left);
             return self.go_below(limits.valid_most, since, stay, Fault::ClockStall);
         }
         self.stop(Fault::DataMoved)

@@ -10,20 +10,26 @@ use transfer::Phase;
 
 impl State {
     // D
-    pub(crate) fn ready_for_data(self, limits: Limits, any: bool, since: u32, lines: Lines) -> State
+    pub(crate) fn ready_for_data(
+        self,
+        limits: Limits,
+        some_handed: bool,
+        since: u32,
+        lines: Lines,
+    ) -> State
         requires { ⌜ Countable self ⌝ }
-        ensures { λ r. ⌜ r ≡ readIn limits self (Phase.ReadyForData any since) lines ⌝ }
+        ensures { λ r. ⌜ r ≡ readIn limits self (Phase.ReadyForData «some_handed» since) lines ⌝ }
     {
         let now = self.tick;
         if lines.clk {
-            let bits = Phase::SetUp(false, 7, 0, now, lines.data);
+            let bits = Phase::SetUp(false, 0, lines.data, now, 7);
             return self.go_below(limits.end_mark, since, bits, Fault::OutOfTurn);
         }
         if lines.data {
-            let acknowledgement = Phase::Acknowledgement(any, since, now);
+            let acknowledgement = Phase::Acknowledgement(some_handed, now, since);
             return self.go_from(limits.end_mark, since, Fault::OutOfTurn, acknowledgement);
         }
-        let stay = Phase::ReadyForData(any, since);
+        let stay = Phase::ReadyForData(some_handed, since);
         self.go_below(
             limits.end_mark_latest,
             since,
@@ -36,19 +42,19 @@ impl State {
     pub(crate) fn acknowledgement(
         self,
         limits: Limits,
-        any: bool,
-        ready: u32,
+        some_handed: bool,
         since: u32,
+        ready_tick: u32,
         lines: Lines,
     ) -> State
         requires { ⌜ Countable self ⌝ }
-        ensures { λ r. ⌜ r ≡ readIn limits self (Phase.Acknowledgement any ready since) lines ⌝ }
+        ensures { λ r. ⌜ r ≡ readIn limits self (Phase.Acknowledgement «some_handed» since «ready_tick») lines ⌝ }
     {
         if lines.clk {
             return self.stop(Fault::OutOfTurn);
         }
         if lines.data {
-            let stay = Phase::Acknowledgement(any, ready, since);
+            let stay = Phase::Acknowledgement(some_handed, since, ready_tick);
             return self.go_below(
                 limits.acknowledge_most,
                 since,
@@ -56,7 +62,7 @@ impl State {
                 Fault::AcknowledgementLong,
             );
         }
-        let acknowledged = Phase::Acknowledged(any, ready, self.tick);
+        let acknowledged = Phase::Acknowledged(some_handed, self.tick, ready_tick);
         self.go_from(
             limits.acknowledge_least,
             since,
@@ -69,26 +75,26 @@ impl State {
     pub(crate) fn acknowledged(
         self,
         limits: Limits,
-        any: bool,
-        ready: u32,
+        some_handed: bool,
         since: u32,
+        ready_tick: u32,
         lines: Lines,
     ) -> State
         requires { ⌜ Countable self ⌝ }
-        ensures { λ r. ⌜ r ≡ readIn limits self (Phase.Acknowledged any ready since) lines ⌝ }
+        ensures { λ r. ⌜ r ≡ readIn limits self (Phase.Acknowledged «some_handed» since «ready_tick») lines ⌝ }
     {
         let now = self.tick;
         if lines.clk {
-            let bits = Phase::SetUp(true, 7, 0, now, lines.data);
+            let bits = Phase::SetUp(true, 0, lines.data, now, 7);
             return self.go_up_to(limits.response, since, bits, Fault::LateClock);
         }
         if lines.data {
             return self.stop(Fault::OutOfTurn);
         }
-        if below(limits.sender_timeout, ready, now) {
-            return self.go(Phase::Acknowledged(any, ready, since));
+        if below(limits.sender_timeout, ready_tick, now) {
+            return self.go(Phase::Acknowledged(some_handed, since, ready_tick));
         }
-        if any {
+        if some_handed {
             return self.stop(Fault::SenderTimeout);
         }
         self.stop(Fault::EmptyStream)

@@ -4,7 +4,6 @@ ghost use Rattle.transfer.specs.Phases.{handover};
 ghost use Rattle.reader.specs.States.{follow, readIn, Countable};
 use crate::offset::up_to;
 use crate::state::State;
-use transfer::Byte;
 use transfer::Fault;
 use transfer::Limits;
 use transfer::Lines;
@@ -12,46 +11,39 @@ use transfer::Phase;
 
 impl State {
     // Offset 0: the CLK pull after bit 8.
-    pub(crate) fn handover(self, mark: bool, value: u8, bit: bool, data: bool) -> State
+    pub(crate) fn handover(self, end_mark: bool, value: u8, bit: bool, data: bool) -> State
         requires { ⌜ Countable self ⌝ }
-        ensures { λ r. ⌜ r ≡ follow self (handover mark value (self .tick) bit «data») ⌝ }
+        ensures { λ r. ⌜ r ≡ follow self (handover «end_mark» value (self .tick) bit «data») ⌝ }
     {
         let now = self.tick;
         if data {
             if bit {
-                return self.go(Phase::Carried(mark, value, now));
+                return self.go(Phase::Carried(end_mark, value, now));
             }
             return self.stop(Fault::OutOfTurn);
         }
-        self.go(Phase::Open(mark, value, now, now))
+        self.go(Phase::Open(end_mark, value, now, now))
     }
 
     // Open: DATA has been seen released.
     pub(crate) fn open(
         self,
         limits: Limits,
-        mark: bool,
+        end_mark: bool,
         value: u8,
         since: u32,
         let_go: u32,
         lines: Lines,
     ) -> State
         requires { ⌜ Countable self ⌝ }
-        ensures { λ r. ⌜ r ≡ readIn limits self (Phase.Open mark value since «let_go») lines ⌝ }
+        ensures { λ r. ⌜ r ≡ readIn limits self (Phase.Open «end_mark» value since «let_go») lines ⌝ }
     {
         let now = self.tick;
         if lines.clk {
             if lines.data {
-                return self.go(Phase::Hold(
-                    Byte {
-                        value,
-                        let_go,
-                        take: now,
-                    },
-                    mark,
-                ));
+                return self.go(Phase::Hold(end_mark, value, now, let_go));
             }
-            let stay = Phase::Open(mark, value, since, let_go);
+            let stay = Phase::Open(end_mark, value, since, let_go);
             return self.go_below(limits.take_latest, since, stay, Fault::ReceiverTimeout);
         }
         self.stop(Fault::OutOfTurn)
@@ -61,34 +53,27 @@ impl State {
     pub(crate) fn carried(
         self,
         limits: Limits,
-        mark: bool,
+        end_mark: bool,
         value: u8,
         since: u32,
         lines: Lines,
     ) -> State
         requires { ⌜ Countable self ⌝ }
-        ensures { λ r. ⌜ r ≡ readIn limits self (Phase.Carried mark value since) lines ⌝ }
+        ensures { λ r. ⌜ r ≡ readIn limits self (Phase.Carried «end_mark» value since) lines ⌝ }
     {
         let now = self.tick;
         if lines.clk {
             if lines.data {
-                return self.go(Phase::Carried(mark, value, since));
+                return self.go(Phase::Carried(end_mark, value, since));
             }
-            let open = Phase::Open(mark, value, since, now);
+            let open = Phase::Open(end_mark, value, since, now);
             return self.go_up_to(limits.keep_most, since, open, Fault::OutOfTurn);
         }
         if lines.data {
             if up_to(limits.between_bytes, since, now) {
                 return self.stop(Fault::Hurried);
             }
-            return self.hand(
-                Byte {
-                    value,
-                    let_go: since + 1,
-                    take: since + 1,
-                },
-                Phase::ReadyToSend(true, mark),
-            );
+            return self.hand(Phase::ReadyToSend(true, end_mark));
         }
         self.stop(Fault::OutOfTurn)
     }

@@ -32,10 +32,12 @@ fn idle_ticks(phase: Phase, limits: Limits, now: u32, most: u16) -> u16
         Phase::Hold(..) => most,
         Phase::ReadyToSend(..) => most,
         Phase::ReadyForData(_, since) => ticks_below(limits.end_mark_latest, since, now, most),
-        Phase::Acknowledgement(_, _, since) => {
+        Phase::Acknowledgement(_, since, _) => {
             ticks_below(limits.acknowledge_most, since, now, most)
         }
-        Phase::Acknowledged(_, ready, _) => { ticks_below(limits.sender_timeout, ready, now, most) }
+        Phase::Acknowledged(_, _, ready_tick) => {
+            ticks_below(limits.sender_timeout, ready_tick, now, most)
+        }
         Phase::SetUp(_, _, _, since, _) => ticks_below(limits.set_up_most, since, now, most),
         Phase::Valid(_, _, _, since, _) => ticks_below(limits.valid_most, since, now, most),
         Phase::Open(_, _, since, _) => ticks_below(limits.take_latest, since, now, most),

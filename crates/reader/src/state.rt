@@ -2,9 +2,10 @@
 ghost use mathlib.Core.Path.{_≡_};
 ghost use Rattle.transfer.specs.Choice.{if_then_else_};
 ghost use Rattle.transfer.specs.Offsets.{below, upTo};
-ghost use Rattle.transfer.specs.Moves.{isDecided, decisionOf};
-ghost use Rattle.transfer.specs.Phases.{Go, Hand, Stop};
-ghost use Rattle.reader.specs.States.{follow, readIn, nextState, firstState, Countable};
+ghost use Prim.Native.Nat.{_<_, _^_};
+ghost use Rattle.transfer.specs.Moves.{isDecided, heldByte, decisionOf};
+ghost use Rattle.transfer.specs.Phases.{Go, Stop};
+ghost use Rattle.reader.specs.States.{follow, handedOn, readIn, nextState, firstState, Countable};
 use crate::offset::below;
 use crate::offset::up_to;
 use transfer::Byte;
@@ -14,12 +15,11 @@ use transfer::Limits;
 use transfer::Lines;
 use transfer::Phase;
 
-// `tick` is the next tick to be read, or the deciding one; `count` bytes were handed over, `handed` last.
+// `tick` is the next tick to be read, or the deciding one; `count` bytes were handed over.
 pub struct State {
     pub phase: Phase,
     pub tick: u32,
     pub count: u32,
-    pub handed: Byte,
 }
 
 impl State {
@@ -30,11 +30,6 @@ impl State {
             phase: Phase::Start,
             tick: 0,
             count: 0,
-            handed: Byte {
-                value: 0,
-                let_go: 0,
-                take: 0,
-            },
         }
     }
 
@@ -43,25 +38,22 @@ impl State {
         requires { ⌜ Countable self ⌝ }
         ensures { λ r. ⌜ r ≡ follow self (Go phase) ⌝ }
     {
-        let handed = self.handed;
         State {
             phase,
             tick: self.tick + 1,
             count: self.count,
-            handed,
         }
     }
 
-    // The tick hands a byte over and leads on into a phase.
-    pub(crate) fn hand(self, byte: Byte, phase: Phase) -> State
+    // The tick hands the byte that is held over and leads on into a phase.
+    pub(crate) fn hand(self, phase: Phase) -> State
         requires { ⌜ Countable self ⌝ }
-        ensures { λ r. ⌜ r ≡ follow self (Hand byte phase) ⌝ }
+        ensures { λ r. ⌜ r ≡ handedOn self phase ⌝ }
     {
         State {
             phase,
             tick: self.tick + 1,
             count: self.count + 1,
-            handed: byte,
         }
     }
 
@@ -69,12 +61,10 @@ impl State {
     pub(crate) fn stop(self, fault: Fault) -> State
         ensures { λ r. ⌜ r ≡ follow self (Stop fault) ⌝ }
     {
-        let handed = self.handed;
         State {
             phase: Phase::Decided(fault),
             tick: self.tick,
             count: self.count,
-            handed,
         }
     }
 
@@ -120,25 +110,33 @@ impl State {
         match phase {
             Phase::Start => self.start(limits, lines),
             Phase::FirstHold => self.first_hold(limits, lines),
-            Phase::Hold(byte, mark) => self.hold(limits, byte, mark, lines),
-            Phase::ReadyToSend(any, ended) => self.ready_to_send(limits, any, ended, lines),
-            Phase::ReadyForData(any, since) => self.ready_for_data(limits, any, since, lines),
-            Phase::Acknowledgement(any, ready, since) => {
-                self.acknowledgement(limits, any, ready, since, lines)
+            Phase::Hold(end_mark, value, take, let_go) => {
+                self.hold(limits, end_mark, value, take, let_go, lines)
             }
-            Phase::Acknowledged(any, ready, since) => {
-                self.acknowledged(limits, any, ready, since, lines)
+            Phase::ReadyToSend(some_handed, ended) => {
+                self.ready_to_send(limits, some_handed, ended, lines)
             }
-            Phase::SetUp(mark, left, value, since, last) => {
-                self.set_up(limits, mark, left, value, since, last, lines)
+            Phase::ReadyForData(some_handed, since) => {
+                self.ready_for_data(limits, some_handed, since, lines)
             }
-            Phase::Valid(mark, left, value, since, bit) => {
-                self.valid(limits, mark, left, value, since, bit, lines)
+            Phase::Acknowledgement(some_handed, since, ready_tick) => {
+                self.acknowledgement(limits, some_handed, since, ready_tick, lines)
             }
-            Phase::Open(mark, value, since, let_go) => {
-                self.open(limits, mark, value, since, let_go, lines)
+            Phase::Acknowledged(some_handed, since, ready_tick) => {
+                self.acknowledged(limits, some_handed, since, ready_tick, lines)
             }
-            Phase::Carried(mark, value, since) => self.carried(limits, mark, value, since, lines),
+            Phase::SetUp(end_mark, value, last, since, bits_left) => {
+                self.set_up(limits, end_mark, value, last, since, bits_left, lines)
+            }
+            Phase::Valid(end_mark, value, bit, since, bits_left) => {
+                self.valid(limits, end_mark, value, bit, since, bits_left, lines)
+            }
+            Phase::Open(end_mark, value, since, let_go) => {
+                self.open(limits, end_mark, value, since, let_go, lines)
+            }
+            Phase::Carried(end_mark, value, since) => {
+                self.carried(limits, end_mark, value, since, lines)
+            }
             Phase::End(finish) => self.end(limits, finish, lines),
             Phase::Decided(fault) => self.stop(fault),
         }
@@ -167,6 +165,31 @@ impl State {
             return true;
         }
         false
+    }
+
+    // The byte that is held: the one that a tick hands over which raises the count.
+    pub fn byte(self) -> Byte
+        requires { ⌜ heldByte (self .phase) .take < 2 ^ 32 ⌝ }
+        ensures { λ r. ⌜ r ≡ heldByte (self .phase) ⌝ }
+    {
+        let phase = self.phase;
+        match phase {
+            Phase::Hold(_, value, take, let_go) => Byte {
+                value,
+                let_go,
+                take,
+            },
+            Phase::Carried(_, value, since) => Byte {
+                value,
+                let_go: since + 1,
+                take: since + 1,
+            },
+            _ => Byte {
+                value: 0,
+                let_go: 0,
+                take: 0,
+            },
+        }
     }
 
     // What the recording comes to if it runs out here.

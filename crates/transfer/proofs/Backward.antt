@@ -85,15 +85,15 @@ module _ (L : Limits) where
   abbrev InTime : Phase → ℕ → Type 0
   InTime Start now = now ≤ L .presence
   InTime FirstHold now = Unit {0}
-  InTime (Hold byte mark) now = Unit {0}
+  InTime (Hold end-mark value take let-go) now = Unit {0}
   InTime (ReadyToSend any ended) now = Unit {0}
   InTime (ReadyForData any since) now = now ≤ since + L .«end_mark_latest»
-  InTime (Acknowledgement any ready since) now = now ≤ since + L .«acknowledge_most»
-  InTime (Acknowledged any ready since) now = Unit {0}
-  InTime (SetUp mark left value since last) now = now ≤ since + L .«set_up_most»
-  InTime (Valid mark left value since bit) now = now ≤ since + L .«valid_most»
-  InTime (Open mark value since let-go) now = now ≤ since + L .«take_latest»
-  InTime (Carried mark value since) now = Unit {0}
+  InTime (Acknowledgement any since ready) now = now ≤ since + L .«acknowledge_most»
+  InTime (Acknowledged any since ready) now = Unit {0}
+  InTime (SetUp end-mark value last since left) now = now ≤ since + L .«set_up_most»
+  InTime (Valid end-mark value bit since left) now = now ≤ since + L .«valid_most»
+  InTime (Open end-mark value since let-go) now = now ≤ since + L .«take_latest»
+  InTime (Carried end-mark value since) now = Unit {0}
   InTime (End finish) now = Unit {0}
   InTime (Decided fault) now = Unit {0}
 
@@ -153,30 +153,31 @@ module _ (L : Limits) where
   row-first-hold true false now w ih i = dead _ _ _
   row-first-hold false false now w ih i = dead _ _ _
 
-  row-hold : (b : Byte) (m c d : Bool) → Row (Hold b m) c d
+  row-hold : (m : Bool) (v t g : ℕ) (c d : Bool) → Row (Hold m v t g) c d
   unfolding next
-  row-hold b m true true now w ih i = goes clockHeld (Hold b m) (Hold b m) now w _ (λ js l h. stay h) (ih (suc now) (Hold b m) tt)
-  row-hold b m false true now w ih i =
+  row-hold m v t g true true now w ih i =
+      goes clockHeld (Hold m v t g) (Hold m v t g) now w _ (λ js l h. stay h) (ih (suc now) (Hold m v t g) tt)
+  row-hold m v t g false true now w ih i =
       unless-below _ _ _ _ _ _ _
       (λ late.
-      hands held (Hold b m) (ReadyToSend true m) now w _ b
+      hands held (Hold m v t g) (ReadyToSend true m) now w _ (record { value = v; «let_go» = g; take = t })
       (λ js l h. leaves (record { late = late; others = l; hands = refl; after = one h })) (ih (suc now) (ReadyToSend true m) tt))
-  row-hold b m true false now w ih i = dead _ _ _
-  row-hold b m false false now w ih i = dead _ _ _
+  row-hold m v t g true false now w ih i = dead _ _ _
+  row-hold m v t g false false now w ih i = dead _ _ _
 
-  row-acknowledgement : (any : Bool) (ready s : ℕ) (c d : Bool) → Row (Acknowledgement any ready s) c d
+  row-acknowledgement : (any : Bool) (s ready : ℕ) (c d : Bool) → Row (Acknowledgement any s ready) c d
   unfolding next
-  row-acknowledgement any ready s true d now w ih i = dead _ _ _
-  row-acknowledgement any ready s false true now w ih i =
+  row-acknowledgement any s ready true d now w ih i = dead _ _ _
+  row-acknowledgement any s ready false true now w ih i =
       if-below _ _ _ _ _ _ _
       (λ a.
-      goes held (Acknowledgement any ready s) (Acknowledgement any ready s) now w _ (λ js l h. stay h)
-      (ih (suc now) (Acknowledgement any ready s) (omega arith)))
-  row-acknowledgement any ready s false false now w ih i =
+      goes held (Acknowledgement any s ready) (Acknowledgement any s ready) now w _ (λ js l h. stay h)
+      (ih (suc now) (Acknowledgement any s ready) (omega arith)))
+  row-acknowledgement any s ready false false now w ih i =
       unless-below _ _ _ _ _ _ _
       (λ a.
-      goes nobody (Acknowledgement any ready s) (Acknowledged any ready now) now w _ (λ js l h. leaves (a, i, one h))
-      (ih (suc now) (Acknowledged any ready now) tt))
+      goes nobody (Acknowledgement any s ready) (Acknowledged any now ready) now w _ (λ js l h. leaves (a, i, one h))
+      (ih (suc now) (Acknowledged any now ready) tt))
 
   row-end : (f : ℕ) (c d : Bool) → Row (End f) c d
   unfolding next
@@ -193,8 +194,7 @@ module _ (L : Limits) where
       if-below _ _ _ _ _ _ _ (λ a. goes clock (Open m v s l) (Open m v s l) now w _ (λ js l h. stay h) (ih (suc now)
       (Open m v s l) (omega arith)))
   row-open m v s l true true now w ih i =
-      let b : Byte = record { value = v; «let_go» = l; take = now } in
-      goes clockHeld (Open m v s l) (Hold b m) now w _ (λ js l h. leaves (i, one h)) (ih (suc now) (Hold b m) tt)
+      goes clockHeld (Open m v s l) (Hold m v now l) now w _ (λ js l h. leaves (i, one h)) (ih (suc now) (Hold m v now l) tt)
 
   module _ (times : Consistent L) where
     row-carried : (m : Bool) (v s : ℕ) (c d : Bool) → Row (Carried m v s) c d
@@ -225,49 +225,49 @@ module _ (L : Limits) where
     row-ready-for-data any s true d now w ih i =
         if-below _ _ _ _ _ _ _
         (λ a.
-        goes (sets d) (ReadyForData any s) (SetUp false 7 0 now d) now w _ (λ js l h. leaves (inl (a, (d, one h))))
-        (ih (suc now) (SetUp false 7 0 now d) (omega (arith, times .set-up-some))))
+        goes (sets d) (ReadyForData any s) (SetUp false 0 d now 7) now w _ (λ js l h. leaves (inl (a, (d, one h))))
+        (ih (suc now) (SetUp false 0 d now 7) (omega (arith, times .set-up-some))))
     row-ready-for-data any s false true now w ih i =
         unless-below _ _ _ _ _ _ _
         (λ a.
-        goes held (ReadyForData any s) (Acknowledgement any s now) now w _ (λ js l h. leaves (inr (a, i, one h)))
-        (ih (suc now) (Acknowledgement any s now) (omega (arith, times .acknowledge-some, times .acknowledge-room))))
+        goes held (ReadyForData any s) (Acknowledgement any now s) now w _ (λ js l h. leaves (inr (a, i, one h)))
+        (ih (suc now) (Acknowledgement any now s) (omega (arith, times .acknowledge-some, times .acknowledge-room))))
     row-ready-for-data any s false false now w ih i =
         if-below _ _ _ _ _ _ _
         (λ a. goes nobody (ReadyForData any s) (ReadyForData any s) now w _ (λ js l h. stay h) (ih (suc now)
         (ReadyForData any s) (omega arith)))
 
-    row-acknowledged : (any : Bool) (ready s : ℕ) (c d : Bool) → Row (Acknowledged any ready s) c d
+    row-acknowledged : (any : Bool) (s ready : ℕ) (c d : Bool) → Row (Acknowledged any s ready) c d
     unfolding next
-    row-acknowledged any ready s false true now w ih i = dead _ _ _
-    row-acknowledged any ready s true d now w ih i =
+    row-acknowledged any s ready false true now w ih i = dead _ _ _
+    row-acknowledged any s ready true d now w ih i =
         if-upTo _ _ _ _ _ _ _
         (λ a.
-        goes (sets d) (Acknowledged any ready s) (SetUp true 7 0 now d) now w _ (λ js l h. leaves (a, (d, one h)))
-        (ih (suc now) (SetUp true 7 0 now d) (omega (arith, times .set-up-some))))
-    row-acknowledged false ready s false false now w ih i =
+        goes (sets d) (Acknowledged any s ready) (SetUp true 0 d now 7) now w _ (λ js l h. leaves (a, (d, one h)))
+        (ih (suc now) (SetUp true 0 d now 7) (omega (arith, times .set-up-some))))
+    row-acknowledged false s ready false false now w ih i =
         if-below _ _ _ _ _ _ _
-        (λ a. goes nobody (Acknowledged false ready s) (Acknowledged false ready s) now w _ (λ js l h. stay h) (ih (suc now)
-        (Acknowledged false ready s) tt))
-    row-acknowledged true ready s false false now w ih i =
+        (λ a. goes nobody (Acknowledged false s ready) (Acknowledged false s ready) now w _ (λ js l h. stay h) (ih (suc now)
+        (Acknowledged false s ready) tt))
+    row-acknowledged true s ready false false now w ih i =
         if-below _ _ _ _ _ _ _
-        (λ a. goes nobody (Acknowledged true ready s) (Acknowledged true ready s) now w _ (λ js l h. stay h) (ih (suc now)
-        (Acknowledged true ready s) tt))
+        (λ a. goes nobody (Acknowledged true s ready) (Acknowledged true s ready) now w _ (λ js l h. stay h) (ih (suc now)
+        (Acknowledged true s ready) tt))
 
     -- The last set-up tick shows b, and the first valid tick too.
-    to-valid : (m : Bool) (left v s : ℕ) (b : Bool) (now : ℕ) (w : List Lines) → Holds w → InTime (SetUp m left v s b) now
-        → Sound (From (SetUp m left v s b) now (lines false b ∷ w)) (run L (suc now) (Valid m left v now b) w)
+    to-valid : (m : Bool) (left v s : ℕ) (b : Bool) (now : ℕ) (w : List Lines) → Holds w → InTime (SetUp m v b s left) now
+        → Sound (From (SetUp m v b s left) now (lines false b ∷ w)) (run L (suc now) (Valid m v b now left) w)
     to-valid m left v s b now w ih i =
-        goes (offers b) (SetUp m left v s b) (Valid m left v now b) now w _
+        goes (offers b) (SetUp m v b s left) (Valid m v b now left) now w _
         (λ js l h. record { pulled = []; till = now; rest = offers b ∷ js; ends = omega arith; fits = i; splits = refl; after = one h })
-        (ih (suc now) (Valid m left v now b) (omega (arith, times .valid-some, times .valid-room)))
+        (ih (suc now) (Valid m v b now left) (omega (arith, times .valid-some, times .valid-room)))
 
-    row-set-up : (m : Bool) (left v s : ℕ) (b c d : Bool) → Row (SetUp m left v s b) c d
+    row-set-up : (m : Bool) (left v s : ℕ) (b c d : Bool) → Row (SetUp m v b s left) c d
     unfolding next same
     row-set-up m left v s b true d now w ih i =
         if-below _ _ _ _ _ _ _
         (λ a.
-        goes (sets d) (SetUp m left v s b) (SetUp m left v s d) now w _
+        goes (sets d) (SetUp m v b s left) (SetUp m v d s left) now w _
         (λ js l h.
         record {
           pulled = d ∷ h .pulled;
@@ -278,22 +278,22 @@ module _ (L : Limits) where
           splits = ap (λ x. sets d ∷ x) (h .splits);
           after = h .after;
         })
-        (ih (suc now) (SetUp m left v s d) (omega arith)))
+        (ih (suc now) (SetUp m v d s left) (omega arith)))
     row-set-up m left v s true false true now w ih i = to-valid m left v s true now w ih i
     row-set-up m left v s false false false now w ih i = to-valid m left v s false now w ih i
     row-set-up m left v s true false false now w ih i = dead _ _ _
     row-set-up m left v s false false true now w ih i = dead _ _ _
 
-    on-valid : (m : Bool) (left v s : ℕ) (b : Bool) (now : ℕ) (w : List Lines) → Holds w → InTime (Valid m left v s b) now
-        → Sound (From (Valid m left v s b) now (lines false b ∷ w))
-        (onward (if below (L .«valid_most») s now then Go (Valid m left v s b)
+    on-valid : (m : Bool) (left v s : ℕ) (b : Bool) (now : ℕ) (w : List Lines) → Holds w → InTime (Valid m v b s left) now
+        → Sound (From (Valid m v b s left) now (lines false b ∷ w))
+        (onward (if below (L .«valid_most») s now then Go (Valid m v b s left)
         else Stop ClockStall) now (λ (q : Phase). run L (suc now) q w))
     on-valid m left v s b now w ih i =
         if-below _ _ _ _ _ _ _
-        (λ a. goes (offers b) (Valid m left v s b) (Valid m left v s b) now w _ (λ js l h. stay h) (ih (suc now)
-        (Valid m left v s b) (omega arith)))
+        (λ a. goes (offers b) (Valid m v b s left) (Valid m v b s left) now w _ (λ js l h. stay h) (ih (suc now)
+        (Valid m v b s left) (omega arith)))
 
-    row-valid : (m : Bool) (left v s : ℕ) (b c d : Bool) → Row (Valid m left v s b) c d
+    row-valid : (m : Bool) (left v s : ℕ) (b c d : Bool) → Row (Valid m v b s left) c d
     unfolding next same afterBit handover
     row-valid m left v s true false true now w ih i = on-valid m left v s true now w ih i
     row-valid m left v s false false false now w ih i = on-valid m left v s false now w ih i
@@ -302,17 +302,17 @@ module _ (L : Limits) where
     row-valid m (suc left) v s b true d now w ih i =
         unless-below _ _ _ _ _ _ _
         (λ a.
-        goes (sets d) (Valid m (suc left) v s b) (SetUp m left (withBit v b) now d) now w _ (λ js l h. leaves (a, i, (d, one h)))
-        (ih (suc now) (SetUp m left (withBit v b) now d) (omega (arith, times .set-up-some))))
+        goes (sets d) (Valid m v b s (suc left)) (SetUp m (withBit v b) d now left) now w _ (λ js l h. leaves (a, i, (d, one h)))
+        (ih (suc now) (SetUp m (withBit v b) d now left) (omega (arith, times .set-up-some))))
     row-valid m zero v s b true false now w ih i =
         unless-below _ _ _ _ _ _ _
         (λ a.
-        goes clock (Valid m 0 v s b) (Open m (withBit v b) now now) now w _ (λ js l h. leaves (a, i, opens (one h)))
+        goes clock (Valid m v b s 0) (Open m (withBit v b) now now) now w _ (λ js l h. leaves (a, i, opens (one h)))
         (ih (suc now) (Open m (withBit v b) now now) (omega (arith, times .keep-take))))
     row-valid m zero v s true true true now w ih i =
         unless-below _ _ _ _ _ _ _
         (λ a.
-        goes clockKept (Valid m 0 v s true) (Carried m (withBit v true) now) now w _ (λ js l h. leaves (a, i, carries refl (one h)))
+        goes clockKept (Valid m v true s 0) (Carried m (withBit v true) now) now w _ (λ js l h. leaves (a, i, carries refl (one h)))
         (ih (suc now) (Carried m (withBit v true) now) tt))
     row-valid m zero v s false true true now w ih i = unless-below _ _ _ _ _ _ _ (λ a. dead _ _ _)
 
@@ -331,13 +331,13 @@ module _ (L : Limits) where
     unfolding next
     row Start c d = row-start c d
     row FirstHold c d = row-first-hold c d
-    row (Hold b m) c d = row-hold b m c d
+    row (Hold m v t g) c d = row-hold m v t g c d
     row (ReadyToSend any ended) c d = row-ready-to-send any ended c d
     row (ReadyForData any s) c d = row-ready-for-data any s c d
-    row (Acknowledgement any ready s) c d = row-acknowledgement any ready s c d
-    row (Acknowledged any ready s) c d = row-acknowledged any ready s c d
-    row (SetUp m left v s b) c d = row-set-up m left v s b c d
-    row (Valid m left v s b) c d = row-valid m left v s b c d
+    row (Acknowledgement any s ready) c d = row-acknowledgement any s ready c d
+    row (Acknowledged any s ready) c d = row-acknowledged any s ready c d
+    row (SetUp m v b s left) c d = row-set-up m left v s b c d
+    row (Valid m v b s left) c d = row-valid m left v s b c d
     row (Open m v s l) c d = row-open m v s l c d
     row (Carried m v s) c d = row-carried m v s c d
     row (End f) c d = row-end f c d
@@ -349,13 +349,13 @@ module _ (L : Limits) where
     runs-out : (p : Phase) (now : ℕ) → Sound (From p now []) (ended p now)
     runs-out Start now = cut _ _
     runs-out FirstHold now = cut _ _
-    runs-out (Hold b m) now = cut _ _
+    runs-out (Hold m v t g) now = cut _ _
     runs-out (ReadyToSend any ended) now = cut _ _
     runs-out (ReadyForData any s) now = cut _ _
-    runs-out (Acknowledgement any ready s) now = cut _ _
-    runs-out (Acknowledged any ready s) now = cut _ _
-    runs-out (SetUp m left v s b) now = cut _ _
-    runs-out (Valid m left v s b) now = cut _ _
+    runs-out (Acknowledgement any s ready) now = cut _ _
+    runs-out (Acknowledged any s ready) now = cut _ _
+    runs-out (SetUp m v b s left) now = cut _ _
+    runs-out (Valid m v b s left) now = cut _ _
     runs-out (Open m v s l) now = cut _ _
     runs-out (Carried m v s) now = cut _ _
     runs-out (End f) now =

@@ -25,15 +25,15 @@ use Rattle.transfer.proofs.Undecided.{undecided}
 no-later : (p : Phase) (now : ℕ) → finished p ≤ now → latest p now ≤ suc now
 no-later Start now h = omega arith
 no-later FirstHold now h = omega arith
-no-later (Hold byte mark) now h = omega arith
-no-later (ReadyToSend any ended) now h = omega arith
-no-later (ReadyForData any since) now h = omega arith
-no-later (Acknowledgement any ready since) now h = omega arith
-no-later (Acknowledged any ready since) now h = omega arith
-no-later (SetUp mark left value since last) now h = omega arith
-no-later (Valid mark left value since bit) now h = omega arith
-no-later (Open mark value since let-go) now h = omega arith
-no-later (Carried mark value since) now h = omega arith
+no-later (Hold end-mark value take let-go) now h = omega arith
+no-later (ReadyToSend some-handed ended) now h = omega arith
+no-later (ReadyForData some-handed since) now h = omega arith
+no-later (Acknowledgement some-handed since ready-tick) now h = omega arith
+no-later (Acknowledged some-handed since ready-tick) now h = omega arith
+no-later (SetUp end-mark value last since bits-left) now h = omega arith
+no-later (Valid end-mark value bit since bits-left) now h = omega arith
+no-later (Open end-mark value since let-go) now h = omega arith
+no-later (Carried end-mark value since) now h = omega arith
 no-later (End finish) now h = omega arith
 no-later (Decided fault) now h = omega arith
 
@@ -58,15 +58,15 @@ decision-in : (p : Phase) (tick n : ℕ) → (isDecided p ≡ false → tick ≡
     → Placed (decisionOf p tick) n
 decision-in Start tick n u d f = cut-at tick n (u refl)
 decision-in FirstHold tick n u d f = cut-at tick n (u refl)
-decision-in (Hold byte mark) tick n u d f = cut-at tick n (u refl)
-decision-in (ReadyToSend any ended) tick n u d f = cut-at tick n (u refl)
-decision-in (ReadyForData any since) tick n u d f = cut-at tick n (u refl)
-decision-in (Acknowledgement any ready since) tick n u d f = cut-at tick n (u refl)
-decision-in (Acknowledged any ready since) tick n u d f = cut-at tick n (u refl)
-decision-in (SetUp mark left value since last) tick n u d f = cut-at tick n (u refl)
-decision-in (Valid mark left value since bit) tick n u d f = cut-at tick n (u refl)
-decision-in (Open mark value since let-go) tick n u d f = cut-at tick n (u refl)
-decision-in (Carried mark value since) tick n u d f = cut-at tick n (u refl)
+decision-in (Hold end-mark value take let-go) tick n u d f = cut-at tick n (u refl)
+decision-in (ReadyToSend some-handed ended) tick n u d f = cut-at tick n (u refl)
+decision-in (ReadyForData some-handed since) tick n u d f = cut-at tick n (u refl)
+decision-in (Acknowledgement some-handed since ready-tick) tick n u d f = cut-at tick n (u refl)
+decision-in (Acknowledged some-handed since ready-tick) tick n u d f = cut-at tick n (u refl)
+decision-in (SetUp end-mark value last since bits-left) tick n u d f = cut-at tick n (u refl)
+decision-in (Valid end-mark value bit since bits-left) tick n u d f = cut-at tick n (u refl)
+decision-in (Open end-mark value since let-go) tick n u d f = cut-at tick n (u refl)
+decision-in (Carried end-mark value since) tick n u d f = cut-at tick n (u refl)
 decision-in (End finish) tick n u d f = not-cut _ n refl (omega arith)
 decision-in (Decided fault) tick n u d f = not-cut _ n refl (d refl)
 
@@ -82,11 +82,11 @@ module _ (L : Limits) where
         let z : now + suc (length w) ≡ suc now + length w = omega arith in
         rw z (ih (suc now) q u (omega (arith, no-later p now f)))
 
-    moved : {most : ℕ} (x : Move) → Climbs most (latest p now) l x
+    moved : (x : Move) → Climbs now p l x
         → Placed (onward x now (λ (q : Phase). run L (suc now) q w) .decision) (now + suc (length w))
     moved (Stop fault) stops = not-cut _ _ refl (omega arith)
     moved (Go q) (goes a h e) = beyond q (undecided q l e) h
-    moved (Hand b q) (hands a h e) = beyond q (undecided q l e) h
+    moved (Hand b q) (hands a h e held taken) = beyond q (undecided q l e) h
 
   lies : (w : List Lines) → Lies w
   unfolding run

@@ -118,25 +118,25 @@ module _ (L : Limits) where
 
   -- A set-up's further ticks.
   along-set-up : (m : Bool) (left v s now : ℕ) (d : Bool) (ds : List Bool) (js : List Pulls) → now + length ds ≤ s + L .«set_up_most»
-      → run L now (SetUp m left v s d) (map shows (map sets ds ++ js))
-      ≡ run L (now + length ds) (SetUp m left v s (lastOf d ds)) (map shows js)
+      → run L now (SetUp m v d s left) (map shows (map sets ds ++ js))
+      ≡ run L (now + length ds) (SetUp m v (lastOf d ds) s left) (map shows js)
   unfolding next
   along-set-up m left v s now d [] js h = at-tick _ _ (omega arith)
   along-set-up m left v s now d (e ∷ ds) js h =
-      step now (SetUp m left v s d) (SetUp m left v s e) true e _ (is-below _ _ _ _ _ (omega arith))
+      step now (SetUp m v d s left) (SetUp m v e s left) true e _ (is-below _ _ _ _ _ (omega arith))
       ∙ along-set-up m left v s (suc now) e ds js (omega arith)
       ∙ at-tick _ _ (omega arith)
 
   -- One bit, from the tick after its first set-up tick `s` to its last valid tick.
   along-bit : (m : Bool) (left v s : ℕ) (x : Bit) (js : List Pulls) → 1 ≤ x .valid → BitRule L x
-      → run L (suc s) (SetUp m left v s (x .first)) (map shows (map sets (x .others) ++ (replicate (x .valid) (offers (x .bit)) ++ js)))
-      ≡ run L (s + suc (length (x .others) + x .valid)) (Valid m left v (suc s + length (x .others)) (x .bit)) (map shows js)
+      → run L (suc s) (SetUp m v (x .first) s left) (map shows (map sets (x .others) ++ (replicate (x .valid) (offers (x .bit)) ++ js)))
+      ≡ run L (s + suc (length (x .others) + x .valid)) (Valid m v (x .bit) (suc s + length (x .others)) left) (map shows js)
   unfolding next
   along-bit m left v s x js one rules =
       along-set-up m left v s (suc s) (x .first) (x .others) _ (omega (arith, rules .set-up))
-      ∙ ap (λ (b : Bool). run L (suc s + length (x .others)) (SetUp m left v s b)
+      ∙ ap (λ (b : Bool). run L (suc s + length (x .others)) (SetUp m v b s left)
       (map shows (replicate (x .valid) (offers (x .bit)) ++ js))) (sym (rules .steady))
-      ∙ enters (SetUp m left v s (x .bit)) (Valid m left v (suc s + length (x .others)) (x .bit)) false (x .bit) false (x .valid)
+      ∙ enters (SetUp m v (x .bit) s left) (Valid m v (x .bit) (suc s + length (x .others)) left) false (x .bit) false (x .valid)
       (suc s + length (x .others)) js one (is-same (x .bit) _ _)
       (λ i a b. is-same (x .bit) _ _ ∙ is-below _ _ _ _ _ (omega (arith, rules .valid-most)))
       ∙ at-tick _ _ (omega arith)
@@ -151,16 +151,16 @@ module _ (L : Limits) where
       one-tick now p (Hand b (ReadyToSend true m)) false true _ e
       ∙ ap (give b) (stays (ReadyToSend true m) false false true k (suc now) js (λ i x y. refl) ∙ at-tick _ _ (omega arith))
 
-  along-hold : (b : Byte) (m : Bool) (n k now : ℕ) (js : List Pulls) → b .take + L .«between_bytes» ≤ now + n → 1 ≤ k
-      → run L now (Hold b m) (map shows (handoverTicks n 0 0 ++ (replicate k held ++ js)))
-      ≡ give b (run L (now + n + k) (ReadyToSend true m) (map shows js))
+  along-hold : (m : Bool) (v t l n k now : ℕ) (js : List Pulls) → t + L .«between_bytes» ≤ now + n → 1 ≤ k
+      → run L now (Hold m v t l) (map shows (handoverTicks n 0 0 ++ (replicate k held ++ js)))
+      ≡ give (record { value = v; «let_go» = l; take = t }) (run L (now + n + k) (ReadyToSend true m) (map shows js))
   unfolding next
-  along-hold b m zero k now js h one =
-      lets-go (Hold b m) b m k now js one (not-below _ _ _ _ _ (omega arith)) ∙ ap (give b) (at-tick _ _ (omega arith))
-  along-hold b m (suc n) k now js h one =
-      step now (Hold b m) (Hold b m) true true _ refl
-      ∙ along-hold b m n k (suc now) js (omega arith) one
-      ∙ ap (give b) (at-tick _ _ (omega arith))
+  along-hold m v t l zero k now js h one =
+      lets-go (Hold m v t l) _ m k now js one (not-below _ _ _ _ _ (omega arith)) ∙ ap (give _) (at-tick _ _ (omega arith))
+  along-hold m v t l (suc n) k now js h one =
+      step now (Hold m v t l) (Hold m v t l) true true _ refl
+      ∙ along-hold m v t l n k (suc now) js (omega arith) one
+      ∙ ap (give _) (at-tick _ _ (omega arith))
 
   -- Open, with the take t ticks ahead and the release of CLK n ticks ahead.
   along-open : (m : Bool) (v s l t n k now : ℕ) (js : List Pulls) → now + t ≤ s + L .«take_latest» → t < n
@@ -170,8 +170,8 @@ module _ (L : Limits) where
   unfolding next
   along-open m v s l t zero k now js h a b one = absurd (omega arith)
   along-open m v s l zero (suc n) k now js h a b one =
-      step now (Open m v s l) (Hold (record { value = v; «let_go» = l; take = now }) m) true true _ refl
-      ∙ along-hold (record { value = v; «let_go» = l; take = now }) m n k (suc now) js (omega arith) one
+      step now (Open m v s l) (Hold m v now l) true true _ refl
+      ∙ along-hold m v now l n k (suc now) js (omega arith) one
       ∙ ap₂ (λ u e. give (record { value = v; «let_go» = l; take = u }) (run L e (ReadyToSend true m) (map shows js)))
       (omega arith) (omega arith)
   along-open m v s l (suc t) (suc n) k now js h a b one =
@@ -269,33 +269,33 @@ module _ (L : Limits) where
 
     along-mark : (any : Bool) (gap ack resp now : ℕ) (js : List Pulls) → EndMarkRule L gap ack resp
         → run L now (ReadyToSend any false) (map shows (replicate gap nobody ++ (replicate ack held ++ (replicate resp nobody ++ js))))
-        ≡ run L (now + gap + ack + resp) (Acknowledged any now (now + gap + ack)) (map shows js)
+        ≡ run L (now + gap + ack + resp) (Acknowledged any (now + gap + ack) now) (map shows js)
     unfolding next
     along-mark any gap ack resp now js rule =
         along-gap any gap now _ (omega (arith, times .end-mark)) (rule .gap-most)
-        ∙ enters (ReadyForData any now) (Acknowledgement any now (now + gap)) false false true ack (now + gap) _
+        ∙ enters (ReadyForData any now) (Acknowledgement any (now + gap) now) false false true ack (now + gap) _
         (omega (arith, times .acknowledge-some)) (not-below _ _ _ _ _ (omega arith)) (λ i x y. is-below _ _ _ _ _ (omega arith))
-        ∙ enters (Acknowledgement any now (now + gap)) (Acknowledged any now (now + gap + ack)) false false false resp
+        ∙ enters (Acknowledgement any (now + gap) now) (Acknowledged any (now + gap + ack) now) false false false resp
         (now + gap + ack) _ (rule .response-least) (not-below _ _ _ _ _ (omega arith))
         (λ i x y. is-below _ _ _ _ _ (omega (arith, times .timeout)))
 
     -- Bits, from the tick after the first set-up tick to the CLK pull after the last of them, which shows DATA d.
     along-bits : (m : Bool) (v now : ℕ) (x : Bit) (xs : List Bit) (d : Bool) (js : List Pulls) → BitRule L x → BitRules L xs
-        → run L (suc now) (SetUp m (length xs) v now (x .first))
+        → run L (suc now) (SetUp m v (x .first) now (length xs))
         (map shows (map sets (x .others) ++ (replicate (x .valid) (offers (x .bit)) ++ bitsTrack xs (sets d ∷ js))))
         ≡ onward (handover m (takenIn v (x ∷ xs)) (now + bitsTicks (x ∷ xs)) (lastBit (x .bit) xs) d) (now + bitsTicks (x ∷ xs))
         (λ (q : Phase). run L (suc (now + bitsTicks (x ∷ xs))) q (map shows js))
     unfolding next afterBit
     along-bits m v now x [] d js rules all =
         along-bit m 0 v now x (sets d ∷ js) (omega (arith, times .valid-some, rules .valid-least)) rules
-        ∙ one-tick _ (Valid m 0 v (suc now + length (x .others)) (x .bit))
+        ∙ one-tick _ (Valid m v (x .bit) (suc now + length (x .others)) 0)
         (handover m (withBit v (x .bit)) (now + suc (length (x .others) + x .valid)) (x .bit) d) true d _
         (not-below _ _ _ _ _ (omega (arith, rules .valid-least)))
         ∙ ap (λ e. onward (handover m (withBit v (x .bit)) e (x .bit) d) e (λ (q : Phase). run L (suc e) q (map shows js))) (omega arith)
     along-bits m v now x (y ∷ ys) d js rules all =
         along-bit m (suc (length ys)) v now x _ (omega (arith, times .valid-some, rules .valid-least)) rules
-        ∙ step _ (Valid m (suc (length ys)) v (suc now + length (x .others)) (x .bit))
-        (SetUp m (length ys) (withBit v (x .bit)) (now + suc (length (x .others) + x .valid)) (y .first)) true (y .first) _
+        ∙ step _ (Valid m v (x .bit) (suc now + length (x .others)) (suc (length ys)))
+        (SetUp m (withBit v (x .bit)) (y .first) (now + suc (length (x .others) + x .valid)) (length ys)) true (y .first) _
         (not-below _ _ _ _ _ (omega (arith, rules .valid-least)))
         ∙ along-bits m (withBit v (x .bit)) (now + suc (length (x .others) + x .valid)) y ys d js (all .0) (all .1)
         ∙ ap (λ e. onward (handover m (takenIn v (x ∷ y ∷ ys)) e (lastBit (y .bit) ys) d) e (λ (q : Phase). run L (suc e) q
@@ -303,11 +303,11 @@ module _ (L : Limits) where
 
     -- A phase that a CLK pull at tick e leaves for the bits of a byte.
     abbrev Begins : Bool → ℕ → Phase → Type 0
-    Begins m e p = (d : Bool) → next L e p true d ≡ Go (SetUp m 7 0 e d)
+    Begins m e p = (d : Bool) → next L e p true d ≡ Go (SetUp m 0 d e 7)
 
     seven-left : (m : Bool) (e : ℕ) (d : Bool) (w : List Lines) {left : ℕ} → left ≡ 7
-        → run L (suc e) (SetUp m 7 0 e d) w ≡ run L (suc e) (SetUp m left 0 e d) w
-    seven-left m e d w h = ap (λ (left : ℕ). run L (suc e) (SetUp m left 0 e d) w) (sym h)
+        → run L (suc e) (SetUp m 0 d e 7) w ≡ run L (suc e) (SetUp m 0 d e left) w
+    seven-left m e d w h = ap (λ (left : ℕ). run L (suc e) (SetUp m 0 d e left) w) (sym h)
 
     -- A byte, from the CLK pull that begins its bits to the receiver's letting go.
     along-fields : (m : Bool) (p : Phase) (e : ℕ) (bits : List Bit) (l t n k : ℕ) (js : List Pulls) → Begins m e p
@@ -328,7 +328,7 @@ module _ (L : Limits) where
         record {
           handed = r .handed;
           is =
-              step e p (SetUp m 7 0 e (x .first)) true (x .first) _ (b (x .first))
+              step e p (SetUp m 0 (x .first) e 7) true (x .first) _ (b (x .first))
               ∙ seven-left m e (x .first) _ seven
               ∙ along-bits m 0 e x xs (isPositive l) (handoverTicks n (less l) t ++ (replicate k held ++ js)) (rules .bits .each .0)
               (rules .bits .each .1)
@@ -371,7 +371,7 @@ module _ (L : Limits) where
     along-sending any now (last gap ack resp f silence) rules =
         complete-on
         (then-hands (along-mark any gap ack resp now _ (rules .end-mark))
-        (along-frame true (Acknowledged any now (now + gap + ack)) (now + gap + ack + resp) f _
+        (along-frame true (Acknowledged any (now + gap + ack) now) (now + gap + ack + resp) f _
         (λ d. is-upTo _ _ _ _ _ (omega (arith, rules .end-mark .response-most))) (rules .frame)))
         (subst⁻¹ (λ o. CompleteBy o []) (along-end silence _ (rules .silent .some)) (record { verdict = refl; ledger = tt }))
 

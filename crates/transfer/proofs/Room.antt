@@ -13,7 +13,7 @@ use Rattle.transfer.specs.declared.limits.Limits.{Limits}
 use Rattle.transfer.specs.declared.lines.Lines.{Lines}
 use Rattle.transfer.specs.declared.phase.Phase.{Phase}
 use Rattle.transfer.specs.declared.phase.Phase.the-variants.{Start}
-use Rattle.transfer.proofs.Rows.{Climbs, stops, goes, hands, climbs, settled, place, further}
+use Rattle.transfer.proofs.Rows.{Climbs, stops, goes, hands, climbs, settled, place, further, most}
 
 one-at-most : (t : Bool) → further t ≤ 1
 one-at-most true = omega arith
@@ -31,15 +31,15 @@ module _ (L : Limits) where
   -- One tick that shows l, and then the rest.
   module _ (l : Lines) (w : List Lines) (n now : ℕ)
       (rest : (q : Phase) → settled q l ≡ true → 19 * handed (suc now) q w ≤ n + place q) where
-    one-move : {most late : ℕ} (x : Move) → Climbs most late l x
-        → 19 * length (onward x now (λ (q : Phase). run L (suc now) q w) .bytes) ≤ n + most
-    one-move (Stop f) stops = omega arith
-    one-move (Go q) (goes a f e) = omega (arith, rest q e)
-    one-move (Hand b q) (hands a f e) = omega (arith, rest q e)
+    one-move : (p : Phase) (x : Move) → Climbs now p l x
+        → 19 * length (onward x now (λ (q : Phase). run L (suc now) q w) .bytes) ≤ n + most p l
+    one-move p (Stop f) stops = omega arith
+    one-move p (Go q) (goes a f e) = omega (arith, rest q e)
+    one-move p (Hand b q) (hands a f e h t) = omega (arith, rest q e)
 
-    one-tick : (p : Phase) → 19 * handed now p (l ∷ w) ≤ n + (place p + further (settled p l))
+    one-tick : (p : Phase) → 19 * handed now p (l ∷ w) ≤ n + most p l
     unfolding run
-    one-tick p = one-move _ (climbs L now p l)
+    one-tick p = one-move p _ (climbs L now p l)
 
   -- Further ticks of a span, and then the rest.
   same-lines : (k : ℕ) (l : Lines) (w : List Lines) (n : ℕ) → Fits w n → (now : ℕ) (p : Phase) → settled p l ≡ true

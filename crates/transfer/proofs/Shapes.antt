@@ -113,34 +113,34 @@ module _ (L : Limits) where
   AfterC false now js l = Sends now js l
 
   -- The release of CLK that hands b over, `earliest` or later, and C.
-  pub record HandsOver (b : Byte) (mark : Bool) (earliest : ℕ) (now : ℕ) (js : List Pulls) (l : List Byte) : Type 0 where
+  pub record HandsOver (b : Byte) (end-mark : Bool) (earliest : ℕ) (now : ℕ) (js : List Pulls) (l : List Byte) : Type 0 where
     pub late : earliest ≤ now
     pub others : List Byte
     pub hands : l ≡ b ∷ others
-    pub after : First held (Stays held (AfterC mark)) now js others
+    pub after : First held (Stays held (AfterC end-mark)) now js others
 
   -- B
-  abbrev pub Holds : Byte → (mark : Bool) → Rest
-  Holds b mark = Stays clockHeld (HandsOver b mark (b .take + L .«between_bytes»))
+  abbrev pub Holds : Byte → (end-mark : Bool) → Rest
+  Holds b end-mark = Stays clockHeld (HandsOver b end-mark (b .take + L .«between_bytes»))
 
   -- Handover
-  abbrev pub Opened : (mark : Bool) (value since let-go : ℕ) → Rest
-  Opened mark value since let-go =
+  abbrev pub Opened : (end-mark : Bool) (value since let-go : ℕ) → Rest
+  Opened end-mark value since let-go =
       Stays clock
       (λ now js l.
       (now ≤ since + L .«take_latest»)
-      × First clockHeld (Holds (record { value = value; «let_go» = let-go; take = now }) mark) now js l)
+      × First clockHeld (Holds (record { value = value; «let_go» = let-go; take = now }) end-mark) now js l)
 
-  abbrev pub Carries : (mark : Bool) (value since : ℕ) → Rest
-  Carries mark value since now js l =
-      Stays clockKept (λ now js l. (now ≤ since + L .«keep_most») × First clock (Opened mark value since now) now js l) now js l
+  abbrev pub Carries : (end-mark : Bool) (value since : ℕ) → Rest
+  Carries end-mark value since now js l =
+      Stays clockKept (λ now js l. (now ≤ since + L .«keep_most») × First clock (Opened end-mark value since now) now js l) now js l
       ⊎ Stays clockHeld
-      (HandsOver (record { value = value; «let_go» = since + 1; take = since + 1 }) mark (suc (since + L .«between_bytes»)))
+      (HandsOver (record { value = value; «let_go» = since + 1; take = since + 1 }) end-mark (suc (since + L .«between_bytes»)))
       now js l
 
-  pub data Handover (mark bit8 : Bool) (value now : ℕ) (js : List Pulls) (l : List Byte) : Type 0 where
-    opens : First clock (Opened mark value now now) now js l → Handover mark bit8 value now js l
-    carries : bit8 ≡ true → First clockKept (Carries mark value now) now js l → Handover mark bit8 value now js l
+  pub data Handover (end-mark bit8 : Bool) (value now : ℕ) (js : List Pulls) (l : List Byte) : Type 0 where
+    opens : First clock (Opened end-mark value now now) now js l → Handover end-mark bit8 value now js l
+    carries : bit8 ≡ true → First clockKept (Carries end-mark value now) now js l → Handover end-mark bit8 value now js l
 
   -- Bits
   abbrev pub ValidTicks : (since : ℕ) (bit : Bool) → (Bool → Rest) → Rest
@@ -156,11 +156,11 @@ module _ (L : Limits) where
     pub splits : js ≡ map sets pulled ++ rest
     pub after : First (offers (lastOf d pulled)) (ValidTicks till (lastOf d pulled) K) till rest l
 
-  -- `left` bits after those that make `value`, of which the last was `bit`; then the handover.
-  abbrev pub Bits : (mark : Bool) (left value : ℕ) (bit : Bool) → Rest
-  Bits mark zero value bit now js l = Handover mark bit value now js l
-  Bits mark (suc left) value bit now js l =
-      (d : Bool) × First (sets d) (SetUpTicks now d (λ c. Bits mark left (withBit value c) c)) now js l
+  -- `bits-left` bits after those that make `value`, of which the last was `bit`; then the handover.
+  abbrev pub Bits : (end-mark : Bool) (bits-left value : ℕ) (bit : Bool) → Rest
+  Bits end-mark zero value bit now js l = Handover end-mark bit value now js l
+  Bits end-mark (suc bits-left) value bit now js l =
+      (d : Bool) × First (sets d) (SetUpTicks now d (λ c. Bits end-mark bits-left (withBit value c) c)) now js l
 
   -- G, F and D
   abbrev pub Responds : (since : ℕ) → Rest
@@ -185,14 +185,14 @@ module _ (L : Limits) where
   abbrev pub Shape : Phase → Rest
   Shape Start = Stays clock (λ now js l. (now ≤ L .presence) × First clockHeld FirstHolds now js l)
   Shape FirstHold = FirstHolds
-  Shape (Hold byte mark) = Holds byte mark
-  Shape (ReadyToSend any ended) = Stays held (AfterC ended)
-  Shape (ReadyForData any since) = Stays nobody (AfterD since)
-  Shape (Acknowledgement any ready since) = Acknowledges since
-  Shape (Acknowledged any ready since) = Responds since
-  Shape (SetUp mark left value since d) = SetUpTicks since d (λ c. Bits mark left (withBit value c) c)
-  Shape (Valid mark left value since bit) = ValidTicks since bit (λ c. Bits mark left (withBit value c) c)
-  Shape (Open mark value since let-go) = Opened mark value since let-go
-  Shape (Carried mark value since) = Carries mark value since
+  Shape (Hold end-mark value take let-go) = Holds (record { value = value; «let_go» = let-go; take = take }) end-mark
+  Shape (ReadyToSend some-handed ended) = Stays held (AfterC ended)
+  Shape (ReadyForData some-handed since) = Stays nobody (AfterD since)
+  Shape (Acknowledgement some-handed since ready-tick) = Acknowledges since
+  Shape (Acknowledged some-handed since ready-tick) = Responds since
+  Shape (SetUp end-mark value d since bits-left) = SetUpTicks since d (λ c. Bits end-mark bits-left (withBit value c) c)
+  Shape (Valid end-mark value bit since bits-left) = ValidTicks since bit (λ c. Bits end-mark bits-left (withBit value c) c)
+  Shape (Open end-mark value since let-go) = Opened end-mark value since let-go
+  Shape (Carried end-mark value since) = Carries end-mark value since
   Shape (End finish) = Silent
   Shape (Decided fault) = λ now js l. ⊥

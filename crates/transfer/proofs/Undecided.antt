@@ -13,15 +13,15 @@ use Rattle.transfer.proofs.Rows.{settled}
 pub undecided : (p : Phase) (l : Lines) → settled p l ≡ true → isDecided p ≡ false
 undecided Start l e = refl
 undecided FirstHold l e = refl
-undecided (Hold byte mark) l e = refl
-undecided (ReadyToSend any ended) l e = refl
-undecided (ReadyForData any since) l e = refl
-undecided (Acknowledgement any ready since) l e = refl
-undecided (Acknowledged any ready since) l e = refl
-undecided (SetUp mark left value since last) l e = refl
-undecided (Valid mark left value since bit) l e = refl
-undecided (Open mark value since let-go) l e = refl
-undecided (Carried mark value since) l e = refl
+undecided (Hold end-mark value take let-go) l e = refl
+undecided (ReadyToSend some-handed ended) l e = refl
+undecided (ReadyForData some-handed since) l e = refl
+undecided (Acknowledgement some-handed since ready-tick) l e = refl
+undecided (Acknowledged some-handed since ready-tick) l e = refl
+undecided (SetUp end-mark value last since bits-left) l e = refl
+undecided (Valid end-mark value bit since bits-left) l e = refl
+undecided (Open end-mark value since let-go) l e = refl
+undecided (Carried end-mark value since) l e = refl
 undecided (End finish) l e = refl
 undecided (Decided fault) l e = decided-not (l .atn) e
   where

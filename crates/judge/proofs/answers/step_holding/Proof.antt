@@ -1,89 +1,59 @@
--- `step_holding` meets its contract: what is left to search tells the step, counted from where the loop stands. Assumes nothing.
-use Prim.Native.Nat.{_≤_, _+_, _*_, _-_}
-use mathlib.Core.Path.{_≡_, sym, _∙_}
+-- `step_holding` meets its contract: the steps before the loop's place tell where the tick is, or that it is here. Assumes nothing.
 use native.Mathlib.Omega.{arith}
+use mathlib.Core.Path.{sym}
 use borrow.Author.Needs.{needs}
-use Rattle.recording.specs.Layout.{longestDuration}
-use Rattle.recording.specs.Ticks.{stepsFrom}
-use Rattle.judge.specs.Judged.{stepHolding}
-use Rattle.judge.proofs.HoldingLaws.{all-left, held-here, held-later, held-nowhere}
+use Rattle.judge.proofs.HoldingLaws.{Back, all-before, some-before, step-before}
 use Rattle.judge.proofs.answers.step_holding.Statement.{statement}
 use Rattle.judge.proofs.answers.step_holding.Tie as tie
 
 abbrev Inv-loop : tie.InvT-loop
-Inv-loop file steps tick end₀ index₀ end index =
-    (index ≤ steps)
-    × (end ≤ longestDuration * index)
-    × (end ≤ tick)
-    × (stepHolding tick (stepsFrom file 0 steps) ≡ index + stepHolding (tick - end) (stepsFrom file index (steps - index)))
+Inv-loop file steps tick begin₀ index₀ begin index = Back file steps tick index begin
 
 abbrev μ-loop : tie.MeasureT-loop
-μ-loop file steps tick end₀ index₀ end index = steps - index
-
-loop-holds : tie.Need-loop-holds Inv-loop μ-loop
-loop-holds c = (search needs, search needs, search needs, all-left _ _ _)
+μ-loop file steps tick begin₀ index₀ begin index = index
 
 read-requires : tie.Need-read-requires Inv-loop μ-loop
-read-requires c κs = search needs
+read-requires c κs = omega (arith, c .before .pre .whole)
 
-cast-end : tie.Need-cast-end Inv-loop μ-loop
-cast-end c = search needs
+loop-holds : tie.Need-loop-holds Inv-loop μ-loop
+loop-holds c = all-before _ _ _ (c .before .before .pre) (c .read .result) (c .read .ensures)
 
-add-end : tie.Need-add-end Inv-loop μ-loop
-add-end c = search needs
+sub-index : tie.Need-sub-index Inv-loop μ-loop
+sub-index c = some-before _ _ _ _ _ (c .before .loop .inv) (c .loop-test .taken)
 
-cast-result : tie.Need-cast-result Inv-loop μ-loop
-cast-result c = search needs
+read-requires-2 : tie.Need-read-requires-2 Inv-loop μ-loop
+read-requires-2 c κs =
+    let call = c .before .before .before .before in
+    let k = c .before .loop .inv in
+    let some = some-before _ _ _ _ _ k (c .loop-test .taken) in
+    omega (arith, k .few, some, call .pre .whole, call .pre .few)
 
-returns : tie.Need-returns Inv-loop μ-loop
-returns c =
-    let step = c .before .before in
-    let loop = step .before .before in
-    let file = loop .before .before .args .file .now in
-    let k = loop .loop .inv in
-    let s = step .read in
-    let here = held-here file _ _ _ _ (k .2) (s .result) (s .ensures) (step .before .loop-test .taken) (c .if1 .taken) in
-    sym (k .3 ∙ omega (arith, here))
+cast-begin : tie.Need-cast-begin Inv-loop μ-loop
+cast-begin c = search needs
 
-add-index : tie.Need-add-index Inv-loop μ-loop
-add-index c = search needs
+sub-begin : tie.Need-sub-begin Inv-loop μ-loop
+sub-begin c =
+    let read = c .before in
+    step-before _ _ _ _ _ (read .read2 .result) (read .before .before .loop .inv) (read .before .loop-test .taken) (read .read2 .ensures) .0
 
 loop-less : tie.Need-loop-less Inv-loop μ-loop
-loop-less c = search needs
+loop-less c =
+    let inside = c .before .before in
+    omega (arith, some-before _ _ _ _ _ (inside .before .loop .inv) (inside .loop-test .taken))
 
 loop-again : tie.Need-loop-again Inv-loop μ-loop
 loop-again c =
-    let step = c .before .before in
-    let loop = step .before .before in
-    let file = loop .before .before .args .file .now in
-    let k = loop .loop .inv in
-    let s = step .read in
-    let later = held-later file _ _ _ _ (k .2) (s .result) (s .ensures) (step .before .loop-test .taken) (c .if1 .left) in
-    (search needs, search needs, c .if1 .left, k .3 ∙ omega (arith, later))
+    let read = c .before in
+    step-before _ _ _ _ _ (read .read2 .result) (read .before .before .loop .inv) (read .before .loop-test .taken) (read .read2 .ensures) .1
 
-cast-result-2 : tie.Need-cast-result-2 Inv-loop μ-loop
-cast-result-2 c = search needs
+cast-result : tie.Need-cast-result Inv-loop μ-loop
+cast-result c = omega (arith, c .before .loop .inv .few, c .before .before .before .before .pre .few)
 
-returns-2 : tie.Need-returns-2 Inv-loop μ-loop
-returns-2 c =
-    let k = c .before .loop in
-    let nowhere = held-nowhere (c .before .before .before .args .file .now) _ _ _ _ (k .inv .2) (c .loop-test .left) in
-    sym (k .inv .3 ∙ omega (arith, nowhere, k .inv .0, c .loop-test .left))
+returns : tie.Need-returns Inv-loop μ-loop
+returns c = sym (c .before .loop .inv .held (c .loop-test .left))
 
 pub step-holding-spec : {M : Type 1} → statement M
 step-holding-spec =
     tie.close
-    (tie.spec
-    Inv-loop
-    μ-loop
-    loop-holds
-    read-requires
-    cast-end
-    add-end
-    cast-result
-    returns
-    add-index
-    loop-less
-    loop-again
-    cast-result-2
-    returns-2)
+    (tie.spec Inv-loop μ-loop read-requires loop-holds sub-index read-requires-2 cast-begin sub-begin loop-less loop-again
+    cast-result returns)

@@ -66,8 +66,7 @@ read-requires c κs =
 state-answer-requires : tie.Need-state-answer-requires
 state-answer-requires c κs =
     let known = c .before .before .before .before .before .before .before .before .before .before .before in
-    let good = good-form _ _ .0 (sym (known .before .before .check-form .ensures) ∙ known .form2 .given .1) in
-    (good .few, omega (arith, good .whole))
+    good-form _ _ .0 (sym (known .before .before .check-form .ensures) ∙ known .form2 .given .1)
 
 returns-3 : tie.Need-returns-3
 returns-3 c =

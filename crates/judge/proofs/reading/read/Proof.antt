@@ -9,7 +9,7 @@ use Rattle.recording.specs.Layout.{longestDuration}
 use Rattle.judge.specs.Reading.{ticksFrom}
 use Rattle.judge.proofs.HandedLists.{byte-keeps-length, ticks-keep-length}
 use Rattle.judge.proofs.TickLists.{step-left, all-left, none-left, tick-left, ticks-left, no-tick-left, few-handed}
-use Rattle.judge.proofs.ReadingLaws.{comesTo, Keeps, tick-read, tick-most, counted, idle-passed}
+use Rattle.judge.proofs.ReadingLaws.{comesTo, Keeps, tick-read, tick-most, taken-by, counted, idle-passed}
 use Rattle.judge.proofs.ReadingLaws.{step-begins, step-ends, reading-ends, verdict-stands}
 use Rattle.judge.proofs.ReadingLaws.{has-place, reading-begins, reading-is}
 use Rattle.judge.proofs.reading.read.Statement.{statement}
@@ -76,23 +76,21 @@ next-requires c κs =
       count = omega (arith, place);
     }
 
-store-byte-requires : tie.Need-store-byte-requires Inv-loop μ-loop Inv-steps μ-steps
-store-byte-requires c κs =
-    let inner = c .before .before .before in
+store-requires : tie.Need-store-requires Inv-loop μ-loop Inv-steps μ-steps
+store-requires c κs =
+    let next = c .before .before in
+    let inner = next .before .before in
     let outer = inner .before .before .before .before in
     let call = outer .before .before .before .before .before in
-    let k = inner .loop .inv .2 in
-    let place = has-place (call .args .limits) (inner .loop .state) _ (k .few) in
-    omega (arith, place, k .byte-places, outer .steps .inv .1 .byte-places, call .pre .byte-room)
-
-store-ticks-requires : tie.Need-store-ticks-requires Inv-loop μ-loop Inv-steps μ-steps
-store-ticks-requires c κs =
-    let inner = c .before .before .before .before .before .before .before in
-    let outer = inner .before .before .before .before in
-    let call = outer .before .before .before .before .before in
-    let k = inner .loop .inv .2 in
-    let place = has-place (call .args .limits) (inner .loop .state) _ (k .few) in
-    omega (arith, place, k .ledger-places, outer .steps .inv .1 .ledger-places, call .pre .ledger-room)
+    let L = call .args .limits in
+    let k = inner .loop .inv in
+    let place = has-place L (inner .loop .state) _ (k .2 .few) in
+    let taken = taken-by L (inner .loop .state) (next .next .result) _ (next .next .ensures) in
+    record {
+      byte-place = omega (arith, place, k .2 .byte-places, outer .steps .inv .1 .byte-places, call .pre .byte-room);
+      ledger-place = omega (arith, place, k .2 .ledger-places, outer .steps .inv .1 .ledger-places, call .pre .ledger-room);
+      take = λ rose. omega (arith, taken rose, k .2 .tick, k .1, call .pre .few);
+    }
 
 is-decided-requires : tie.Need-is-decided-requires Inv-loop μ-loop Inv-steps μ-steps
 is-decided-requires c κs = search needs
@@ -102,7 +100,7 @@ idle-requires c κs = search needs
 
 later-requires : tie.Need-later-requires Inv-loop μ-loop Inv-steps μ-steps
 later-requires c κs =
-    let next = c .before .before .before .before .before .before .before .before .before .before .before in
+    let next = c .before .before .before .before .before .before .before .before .before .before in
     let inner = next .before .before in
     let call = inner .before .before .before .before .before .before .before .before .before in
     let L = call .args .limits in
@@ -113,21 +111,20 @@ later-requires c κs =
 
 sub-left-2 : tie.Need-sub-left-2 Inv-loop μ-loop Inv-steps μ-steps
 sub-left-2 c =
-    let next = c .before .before .before .before .before .before .before .before .before .before .before .before in
+    let next = c .before .before .before .before .before .before .before .before .before .before .before in
     let L = next .before .before .before .before .before .before .before .before .before .before .before .args .limits in
     counted L _ (next .next .result) _ _ _ (next .next .ensures) (c .before .idle .ensures) .few
 
 loop-less : tie.Need-loop-less Inv-loop μ-loop Inv-steps μ-steps
 loop-less c =
-    let next = c .before .before .before .before .before .before .before .before .before .before .before .before in
+    let next = c .before .before .before .before .before .before .before .before .before .before .before in
     omega (arith, next .before .loop-test .taken)
 
 loop-again : tie.Need-loop-again Inv-loop μ-loop Inv-steps μ-steps
 loop-again c =
     let idle = c .before in
-    let ticks = idle .before .before .before .before .before in
-    let byte = ticks .before .before .before .before in
-    let next = byte .before .before in
+    let kept = idle .before .before .before .before .before .before .before in
+    let next = kept .before .before .before in
     let inner = next .before .before in
     let outer = inner .before .before .before .before in
     let call = outer .before .before .before .before .before in
@@ -137,7 +134,7 @@ loop-again c =
     let left = inner .loop .left - 1 in
     let behind = longestDuration * outer .steps .index + (longestDuration - left) in
     let on = tick-read L _ _ _ _ behind _ _ _ _ (next .next .result) _ _ _ _ (k .2) (omega (arith, k .0, more)) (tick-left _ _ _ more)
-    (next .next .ensures) (byte .store-byte .ensures) (ticks .store-ticks .ensures) in
+    (next .next .ensures) (kept .store .ensures .0) (kept .store .ensures .1) in
     let n = counted L _ (next .next .result) _ _ _ (next .next .ensures) (idle .idle .ensures) in
     let undecided = sym (idle .before .before .is-decided .ensures) ∙ idle .before .if1 .left in
     let i = idle .idle .result in
@@ -184,27 +181,26 @@ returns c =
 
 same-length-3 : tie.Need-same-length-3 Inv-loop μ-loop Inv-steps μ-steps
 same-length-3 c =
-    let byte = c .before .before .before .before .before .before .before .before in
-    let next = byte .before .before in
+    let kept = c .before .before .before .before .before .before in
+    let next = kept .before .before .before in
     let inner = next .before .before in
-    byte-keeps-length _ _ (inner .loop .state) (next .next .result) (byte .store-byte .ensures)
+    byte-keeps-length _ _ (inner .loop .state) (next .next .result) (kept .store .ensures .0)
     ∙ inner .loop .inv .2 .byte-places
     ∙ inner .before .before .before .before .steps .inv .1 .byte-places
 
 same-length-4 : tie.Need-same-length-4 Inv-loop μ-loop Inv-steps μ-steps
 same-length-4 c =
-    let ticks = c .before .before .before .before in
-    let next = ticks .before .before .before .before .before .before in
+    let kept = c .before .before .before .before .before .before in
+    let next = kept .before .before .before in
     let inner = next .before .before in
-    ticks-keep-length _ _ (inner .loop .state) (next .next .result) (ticks .store-ticks .ensures)
+    ticks-keep-length _ _ (inner .loop .state) (next .next .result) (kept .store .ensures .1)
     ∙ inner .loop .inv .2 .ledger-places
     ∙ inner .before .before .before .before .steps .inv .1 .ledger-places
 
 returns-2 : tie.Need-returns-2 Inv-loop μ-loop Inv-steps μ-steps
 returns-2 c =
-    let ticks = c .before .before .before .before in
-    let byte = ticks .before .before .before .before in
-    let next = byte .before .before in
+    let kept = c .before .before .before .before .before .before in
+    let next = kept .before .before .before in
     let inner = next .before .before in
     let step = inner .before .before in
     let outer = step .before .before in
@@ -215,7 +211,7 @@ returns-2 c =
     let more = next .before .loop-test .taken in
     let behind = longestDuration * outer .steps .index + (longestDuration - (inner .loop .left - 1)) in
     let on = tick-read L _ _ _ _ behind _ _ _ _ (next .next .result) _ _ _ _ (k .2) (omega (arith, k .0, more)) (tick-left _ _ _ more)
-    (next .next .ensures) (byte .store-byte .ensures) (ticks .store-ticks .ensures) in
+    (next .next .ensures) (kept .store .ensures .0) (kept .store .ensures .1) in
     let here = step-left (call .args .file .now) _ _ (s .result) _ (s .ensures) (inner .before .of-byte .ensures) (k .1) in
     let whole = step-ends L _ _ _ _ _ behind _ _ _ _ _ _ _ _ _ _ (outer .steps .inv .1) here on refl (omega arith) in
     let few = few-handed L (call .args .file .now) (call .args .steps) (call .pre .few) in
@@ -237,8 +233,7 @@ read-spec =
     loop-holds
     sub-left
     next-requires
-    store-byte-requires
-    store-ticks-requires
+    store-requires
     is-decided-requires
     idle-requires
     later-requires

@@ -10,6 +10,6 @@ unfolding next
 valid-spec =
     tie.close
     (tie.spec (λ c κs. search needs) (λ c κs. search needs) (λ c. search tests) (λ c κs. search needs)
-    (λ c κs. search needs) (λ c. search (tests, ← c .before .«with-bit» .ensures)) (λ c. search needs)
-    (λ c κs. search needs) (λ c κs. search needs) (λ c. search (tests, ← c .before .«with-bit2» .ensures))
+    (λ c κs. search needs) (λ c. search (tests, ← c .before .before .«with-bit» .ensures)) (λ c. search needs)
+    (λ c κs. search needs) (λ c. search (tests, ← c .before .before .«with-bit» .ensures))
     (λ c κs. search needs) (λ c κs. search needs) (λ c. search tests) (λ c κs. search needs) (λ c. search tests))
