@@ -1,3 +1,5 @@
 -- What every entry answers and leaves in lent memory.
+pub mod Choice
+pub mod Numbers
 pub mod Answers
 pub mod Lent

@@ -1,6 +1,13 @@
-// What an entry answers.
+// What an entry answers: its number, by name, and what goes with it.
 ghost use mathlib.Core.Path.{_≡_};
 ghost use Rattle.answer.specs.Answers.{refused, accepted};
+
+mod refusal;
+mod verdict;
+
+pub use crate::refusal::Refusal;
+pub use crate::verdict::Fault;
+pub use crate::verdict::Verdict;
 
 // Document 01: "An answer is a number, a tick, a step and a count."
 pub struct Answer {
@@ -11,11 +18,11 @@ pub struct Answer {
 }
 
 impl Answer {
-    pub fn refused(number: u8, step: u32) -> Answer
-        ensures { λ r. ⌜ r ≡ refused number step ⌝ }
+    pub fn refused(refusal: Refusal, step: u32) -> Answer
+        ensures { λ r. ⌜ r ≡ refused refusal step ⌝ }
     {
         Answer {
-            number,
+            number: refusal.number(),
             tick: 0,
             step,
             count: 0,

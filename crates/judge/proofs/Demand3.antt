@@ -11,14 +11,15 @@ use Rattle.transfer.specs.Demand3.{Consistent, shownSender, shownReceiver, Expl
 use Rattle.transfer.specs.Limits.{standardLimits}
 use Rattle.transfer.specs.Outcome.{outcome}
 use Rattle.transfer.specs.Pair.{values, SameOrLater}
-use Rattle.transfer.specs.Verdicts.{verdictNumber}
+use Rattle.answer.specs.Numbers.{verdictNumber}
 use Rattle.transfer.specs.declared.limits.Limits.{Limits}
 use Rattle.transfer.specs.declared.lines.Lines.{Lines}
 use Rattle.transfer.specs.declared.phase.Byte.{Byte}
 use Rattle.transfer.proofs.Demand3.{demand3, standard-consistent}
-use Rattle.transfer.proofs.Facts.{only-complete-is-20}
+use Rattle.answer.proofs.Numbers.{only-complete-is-20}
 use Rattle.judge.specs.Judged.{Judged, tickList, verdictLeaves, judged}
 use Rattle.judge.specs.Demand3.{GoodWithRoom, CompleteWith, dated, FileDemand3}
+use Rattle.judge.specs.Promise.{JudgePromise}
 use Rattle.judge.proofs.JudgedLaws.{is-verdict}
 use Rattle.judge.proofs.LedgerLists.{length-values, reads-ledger}
 
@@ -84,8 +85,10 @@ module _ (L : Limits) (times : Consistent L) (file b g : List ℕ) where
       (is-verdict L file b g (good .steps) (good-form file (good .steps) .1 (good .good-form)) (good .byte-room) (good .ledger-room))
       at-verdict
 
--- Both clauses of the judge's promise, from the first.
-pub promised : (file b g : List ℕ) (j : Judged) → j ≡ judged standardLimits file b g
-    → (j ≡ judged standardLimits file b g) × (GoodWithRoom file b g → FileDemand3 standardLimits file j)
-promised file b g j e =
-    (e, λ good. subst⁻¹ (FileDemand3 standardLimits file) e (file-demand3 standardLimits standard-consistent file b g good))
+-- The promise, from its first clause, for all times that are consistent; and at document 01's own.
+pub promise : (L : Limits) → Consistent L → (file b g : List ℕ) (j : Judged) → j ≡ judged L file b g → JudgePromise L file b g j
+promise L times file b g j e =
+    record { given = e; explained = λ good. subst⁻¹ (FileDemand3 L file) e (file-demand3 L times file b g good) }
+
+pub promised : (file b g : List ℕ) (j : Judged) → j ≡ judged standardLimits file b g → JudgePromise standardLimits file b g j
+promised = promise standardLimits standard-consistent

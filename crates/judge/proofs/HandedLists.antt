@@ -9,12 +9,12 @@ use lib.ListN.{length, set, length-set}
 use lib.Seq.{sets, sets-eq}
 use borrow.Author.Tests.{eqb-true, eqb-false}
 use Rattle.answer.specs.Lent.{_over_}
-use Rattle.recording.specs.Choice.{if_then_else_}
+use Rattle.answer.specs.Choice.{if_then_else_}
 use Rattle.transfer.specs.Pair.{values}
 use Rattle.transfer.specs.Moves.{heldByte}
-use Rattle.reader.specs.TickLaws.{OneTick}
 use Rattle.transfer.specs.declared.phase.Byte.{Byte}
 use Rattle.reader.specs.declared.state.State.{State}
+use Rattle.reader.proofs.TickLaws.{OneTick}
 use Rattle.judge.specs.Judged.{twoTicks}
 use Rattle.judge.specs.Reading.{withByte, withTicks}
 

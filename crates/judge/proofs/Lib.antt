@@ -3,7 +3,6 @@ pub mod Tests
 pub mod LedgerLists
 pub mod JudgedLaws
 pub mod Demand3
-pub mod Numbers
 pub mod Mission
 pub mod LongFiles
 pub mod TickLists

@@ -1,6 +1,6 @@
 -- What the station stands on. Assumes nothing.
 use Prim.Native.Nat.{ℕ, _≤_, _<_}
-use mathlib.Core.Bool.{Bool, true, false}
+use mathlib.Core.Bool.{Bool, true, false, false≢true}
 use mathlib.Core.List.{List, []}
 use mathlib.Core.Path.{_≡_, refl, sym, ap, subst⁻¹, _∙_}
 use native.Mathlib.Omega.{arith}
@@ -11,7 +11,6 @@ use Rattle.answer.specs.Answers.{refused}
 use Rattle.recording.specs.Form.{formOf}
 use Rattle.recording.specs.GoodForm.{GoodForm}
 use Rattle.recording.specs.Layout.{headerAt}
-use Rattle.recording.specs.Refusals.{refusalNumber}
 use Rattle.recording.specs.Ticks.{stepsFrom, stepsOf, totalTicks, ticks, ticksOf}
 use Rattle.recording.specs.declared.form.Form.{Form}
 use Rattle.recording.specs.declared.form.Form.the-variants.{Good, Refused}
@@ -27,18 +26,26 @@ use Rattle.reader.specs.States.{firstState}
 use Rattle.reader.specs.After.{stateAfter}
 use Rattle.reader.proofs.Outcomes.{outcome-states}
 use Rattle.transfer.specs.Pair.{values}
-use Rattle.transfer.specs.Verdicts.{verdictNumber}
+use Rattle.answer.specs.Numbers.{verdictNumber, IsVerdict}
+use Rattle.answer.specs.declared.refusal.Refusal.{Refusal}
+use Rattle.answer.specs.declared.refusal.Refusal.the-variants.{ShortBuffers}
+use Rattle.answer.specs.declared.verdict.Fault.{Fault}
+use Rattle.answer.specs.declared.verdict.Verdict.{Verdict}
+use Rattle.answer.specs.declared.verdict.Verdict.the-variants.{Complete, Cut, Broken}
+use Rattle.answer.proofs.Numbers.{only-complete-is-20, only-cut-is-22, verdicts-are-no-refusals}
+use Rattle.transfer.specs.Moves.{Stage, decisionIn, decisionOf}
+use Rattle.transfer.specs.declared.phase.Phase.{Phase}
+use Rattle.transfer.proofs.Stages.{Told, is-running, is-end, is-decided, told}
 use Rattle.transfer.specs.declared.limits.Limits.{Limits}
 use Rattle.transfer.proofs.DecisionTicks.{decision-tick}
 use Rattle.transfer.proofs.Demand3.{demand3, standard-consistent}
-use Rattle.transfer.proofs.Facts.{only-complete-is-20, pair-sends-bytes}
+use Rattle.transfer.proofs.Facts.{pair-sends-bytes}
 use Rattle.judge.specs.Judged.{Judged, leaves, byteRoom, ledgerRoom, tickLines, tickList, twoTicks, stepHolding, verdictLeaves}
 use Rattle.judge.specs.Demand3.{GoodWithRoom}
-use Rattle.judge.specs.Mission.{IsVerdict, Holds, AtTheEnd, given, Finished, Mission, MissionLaw, StandardMission}
+use Rattle.judge.specs.Mission.{Holds, AtTheEnd, given, Finished, Mission, MissionLaw, StandardMission}
 use Rattle.judge.proofs.HoldingLaws.{held-by-step, held-at-the-end}
 use Rattle.judge.proofs.JudgedLaws.{good-steps, is-refused, few-places, few-ledger-places, is-verdict}
 use Rattle.judge.proofs.LedgerLists.{length-values}
-use Rattle.judge.proofs.Numbers.{refusal-below-20, numbered, complete-ends}
 
 -- The ticks of a recording of good form, as its steps have them and as its header says.
 ticks-of : (file : List ℕ) → length (tickList file) ≡ totalTicks (stepsOf file)
@@ -47,6 +54,15 @@ ticks-of file = length-map (ticks (stepsOf file)) linesOf ∙ sym (total-counts 
 header-total : (file : List ℕ) (n : ℕ) → GoodForm file n → headerAt file .total ≡ totalTicks (stepsOf file)
 unfolding ticksOf
 header-total file n good = good .total ∙ sym (total-counts (stepsOf file))
+
+-- A fault is no pass.
+unbroken : (fault : Fault) → Broken fault ≡ Complete → ⊥
+unbroken fault e = false≢true (ap passes e)
+  where
+    passes : Verdict → Bool
+    passes Complete = true
+    passes Cut = false
+    passes (Broken f) = false
 
 module _ (L : Limits) (times : Consistent L) (file bytes ledger : List ℕ) where
   abbrev got : Judged
@@ -57,17 +73,17 @@ module _ (L : Limits) (times : Consistent L) (file bytes ledger : List ℕ) wher
 
   -- What the judge gives is a refusal, which changes nothing, or a verdict.
   data Kind : Type 0 where
-    refusal : (number step : ℕ) → number < 20 → got ≡ leaves (refused number step) bytes ledger → Kind
+    refusal : (r : Refusal) (step : ℕ) → got ≡ leaves (refused r step) bytes ledger → Kind
     verdict : GoodWithRoom file bytes ledger → got ≡ verdictLeaves (stepsOf file) read bytes ledger → Kind
 
   by-form : (form : Form) → formOf file ≡ form → Kind
-  by-form (Refused r step) e = refusal (refusalNumber r) step (refusal-below-20 r) (is-refused L file bytes ledger r step e)
+  by-form (Refused r step) e = refusal r step (is-refused L file bytes ledger r step e)
   by-form (Good n) e = by-room (ltb (length bytes) byteRoom) (ltb (length ledger) ledgerRoom) refl refl
     where
       by-room : (t u : Bool) → ltb (length bytes) byteRoom ≡ t → ltb (length ledger) ledgerRoom ≡ u → Kind
-      by-room true u et eu = refusal 9 0 (omega arith) (few-places L file bytes ledger n e (ltb-true (length bytes) byteRoom et))
+      by-room true u et eu = refusal ShortBuffers 0 (few-places L file bytes ledger n e (ltb-true (length bytes) byteRoom et))
       by-room false true et eu =
-          refusal 9 0 (omega arith)
+          refusal ShortBuffers 0
           (few-ledger-places L file bytes ledger n e (ltb-false (length bytes) byteRoom et) (ltb-true (length ledger) ledgerRoom eu))
       by-room false false et eu =
           let hb = ltb-false (length bytes) byteRoom et in
@@ -79,12 +95,22 @@ module _ (L : Limits) (times : Consistent L) (file bytes ledger : List ℕ) wher
   is-number : got ≡ verdictLeaves (stepsOf file) read bytes ledger → verdictNumber (read .decision .verdict) ≡ got .answer .number
   is-number is = ap (λ (j : Judged). j .answer .number) (sym is)
 
-  no-verdict : (number step : ℕ) → number < 20 → got ≡ leaves (refused number step) bytes ledger → 20 ≤ got .answer .number → ⊥
-  no-verdict number step low is h = omega (arith, ap (λ (j : Judged). j .answer .number) is)
+  no-verdict : (r : Refusal) (step : ℕ) → got ≡ leaves (refused r step) bytes ledger → (v : Verdict) → verdictNumber v ≡ got .answer .number → ⊥
+  no-verdict r step is v e = verdicts-are-no-refusals v r (e ∙ ap (λ (j : Judged). j .answer .number) is)
+
+  -- A decision that is complete was taken in E, and its tick is the finish tick.
+  complete-ends : (p : Phase) (tick : ℕ) → decisionOf p tick .verdict ≡ Complete → p ≡ End (decisionOf p tick .tick)
+  complete-ends p tick e = by-stage (told p)
+    where
+      by-stage : Told p → p ≡ End (decisionOf p tick .tick)
+      by-stage (is-running r) =
+          absurd (omega (arith, sym (ap (λ (g : Stage). verdictNumber (decisionIn g tick .verdict)) r) ∙ ap verdictNumber e))
+      by-stage (is-end finish r) = r ∙ sym (ap (λ (q : Phase). End (decisionOf q tick .tick)) r)
+      by-stage (is-decided fault r) = absurd (unbroken fault (sym (ap (λ (q : Phase). decisionOf q tick .verdict) r) ∙ e))
 
   -- 20.
   finishes : Kind → got .answer .number ≡ 20 → Finished L file bytes ledger (got .answer .tick)
-  finishes (refusal number step low is) h = absurd (no-verdict number step low is (omega arith))
+  finishes (refusal r step is) h = absurd (no-verdict r step is Complete (sym h))
   finishes (verdict form is) h =
       let e = outcome-states L (tickList file) in
       let complete = ap (λ (o : Outcome). o .decision .verdict) (sym e) ∙ only-complete-is-20 _ (is-number is ∙ h) in
@@ -96,7 +122,7 @@ module _ (L : Limits) (times : Consistent L) (file bytes ledger : List ℕ) wher
       })
 
   sends-a-byte : Kind → got .answer .number ≡ 20 → 1 ≤ got .answer .count
-  sends-a-byte (refusal number step low is) h = absurd (no-verdict number step low is (omega arith))
+  sends-a-byte (refusal r step is) h = absurd (no-verdict r step is Complete (sym h))
   sends-a-byte (verdict form is) h =
       let complete = only-complete-is-20 _ (is-number is ∙ h) in
       let pair = demand3 L times (tickList file) .exactly (values (read .bytes)) .0 (record { verdict = complete; bytes = refl }) in
@@ -122,23 +148,25 @@ module _ (L : Limits) (times : Consistent L) (file bytes ledger : List ℕ) wher
       let good = good-form file (form .steps) .1 (form .good-form) in
       subst⁻¹ (λ (j : Judged). IsVerdict (j .answer .number))
       (is-verdict L file bytes ledger (form .steps) good (form .byte-room) (form .ledger-room))
-      (numbered (read .decision .verdict) .is)
+      (record { verdict = read .decision .verdict; numbered = refl })
 
   has-form : Kind → IsVerdict (got .answer .number) → GoodWithRoom file bytes ledger
-  has-form (refusal number step low is) h = absurd (no-verdict number step low is (h .least))
+  has-form (refusal r step is) h = absurd (no-verdict r step is (h .verdict) (h .numbered))
   has-form (verdict form is) h = form
 
-  unchanged : Kind → (IsVerdict (got .answer .number) → ⊥) → got ≡ leaves (refused (got .answer .number) (got .answer .step)) bytes ledger
-  unchanged (refusal number step low is) h =
-      is ∙ ap (λ (j : Judged). leaves (refused (j .answer .number) (j .answer .step)) bytes ledger) (sym is)
+  abbrev refusedAs : Judged → Judged
+  refusedAs j = leaves (record { number = j .answer .number; tick = 0; step = j .answer .step; count = 0 }) bytes ledger
+
+  unchanged : Kind → (IsVerdict (got .answer .number) → ⊥) → got ≡ refusedAs got
+  unchanged (refusal r step is) h = is ∙ ap refusedAs (sym is)
   unchanged (verdict form is) h = absurd (h (has-verdict form))
 
   -- Where the tick lies, and its step.
   ends : Kind → got .answer .number ≡ 22 → AtTheEnd file (got .answer)
   unfolding stepsOf
-  ends (refusal number step low is) h = absurd (no-verdict number step low is (omega arith))
+  ends (refusal r step is) h = absurd (no-verdict r step is Cut (sym h))
   ends (verdict form is) h =
-      let cut = numbered (read .decision .verdict) .cut (is-number is ∙ h) in
+      let cut = only-cut-is-22 (read .decision .verdict) (is-number is ∙ h) in
       let tick = decision-tick L (tickList file) .cut cut ∙ ticks-of file in
       subst⁻¹ (λ (j : Judged). AtTheEnd file (j .answer)) is
       (record {
@@ -150,7 +178,7 @@ module _ (L : Limits) (times : Consistent L) (file bytes ledger : List ℕ) wher
 
   held : Kind → IsVerdict (got .answer .number) → (got .answer .number ≡ 22 → ⊥) → Holds file (got .answer .tick) (got .answer .step)
   unfolding stepsOf
-  held (refusal number step low is) v h = absurd (no-verdict number step low is (v .least))
+  held (refusal r step is) v h = absurd (no-verdict r step is (v .verdict) (v .numbered))
   held (verdict form is) v h =
       let tick = decision-tick L (tickList file) .inside (λ cut. h (sym (is-number is) ∙ ap verdictNumber cut)) in
       subst⁻¹ (λ (j : Judged). Holds file (j .answer .tick) (j .answer .step)) is

@@ -16,11 +16,11 @@ use Rattle.transfer.specs.Outcome.{Outcome, outcome}
 use Rattle.transfer.specs.Pair.{values}
 use Rattle.reader.specs.States.{firstState}
 use Rattle.transfer.specs.Moves.{decisionOf}
-use Rattle.transfer.specs.Verdicts.{verdictNumber}
+use Rattle.answer.specs.Numbers.{verdictNumber}
 use Rattle.transfer.specs.declared.limits.Limits.{Limits}
 use Rattle.transfer.specs.declared.lines.Lines.{Lines}
 use Rattle.reader.specs.declared.state.State.{State}
-use Rattle.transfer.specs.declared.verdict.Decision.{Decision}
+use Rattle.transfer.specs.declared.decision.Decision.{Decision}
 use Rattle.reader.proofs.TickLaws.{counts}
 use Rattle.reader.proofs.Outcomes.{outcome-states}
 use Rattle.judge.specs.Judged.{leaves, byteRoom, ledgerRoom, tickLines, twoTicks, stepHolding, verdictAnswer, verdictLeaves, judged}

@@ -9,14 +9,13 @@ use lib.Seq.{sets}
 use Rattle.reader.specs.After.{stateAfter, handedIn, handedOver}
 use Rattle.reader.specs.Idle.{idleTicks, later, Idle, Counted}
 use Rattle.transfer.specs.Pair.{values}
-use Rattle.reader.specs.TickLaws.{OneTick}
 use Rattle.reader.specs.States.{firstState, nextState}
 use Rattle.transfer.specs.Moves.{isDecided, heldByte}
 use Rattle.transfer.specs.declared.limits.Limits.{Limits}
 use Rattle.transfer.specs.declared.lines.Lines.{Lines}
 use Rattle.transfer.specs.declared.phase.Byte.{Byte}
 use Rattle.reader.specs.declared.state.State.{State}
-use Rattle.reader.proofs.TickLaws.{one-tick, counts, stands}
+use Rattle.reader.proofs.TickLaws.{OneTick, one-tick, counts, stands}
 use Rattle.reader.proofs.IdleLaws.{idle-law}
 use Rattle.judge.specs.Judged.{byteRoom, ledgerRoom, twoTicks}
 use Rattle.judge.specs.Reading.{withByte, withTicks, Reached, reached, readInto}

@@ -6,9 +6,9 @@ use lib.ListN.{length}
 use Rattle.answer.specs.Answers.{refused}
 use Rattle.answer.specs.Lent.{_over_}
 use Rattle.answer.specs.declared.Answer.{Answer}
-use Rattle.recording.specs.Choice.{if_then_else_}
+use Rattle.answer.specs.declared.refusal.Refusal.the-variants.{ShortBuffers}
+use Rattle.answer.specs.Choice.{if_then_else_}
 use Rattle.recording.specs.Form.{formOf}
-use Rattle.recording.specs.Refusals.{refusalNumber}
 use Rattle.recording.specs.Ticks.{stepsOf, ticks}
 use Rattle.recording.specs.declared.form.Form.{Form}
 use Rattle.recording.specs.declared.form.Form.the-variants.{Good, Refused}
@@ -16,11 +16,11 @@ use Rattle.recording.specs.declared.step.Step.{Step}
 use Rattle.transfer.specs.Lines.{linesOf}
 use Rattle.transfer.specs.Outcome.{Outcome, outcome}
 use Rattle.transfer.specs.Pair.{values}
-use Rattle.transfer.specs.Verdicts.{verdictNumber}
+use Rattle.answer.specs.Numbers.{verdictNumber}
 use Rattle.transfer.specs.declared.limits.Limits.{Limits}
 use Rattle.transfer.specs.declared.lines.Lines.{Lines}
 use Rattle.transfer.specs.declared.phase.Byte.{Byte}
-use Rattle.transfer.specs.declared.verdict.Decision.{Decision}
+use Rattle.transfer.specs.declared.decision.Decision.{Decision}
 
 -- What the judge leaves: an answer, and both lent buffers.
 pub record Judged : Type 0 where
@@ -65,15 +65,15 @@ abbrev pub verdictLeaves : List Step → Outcome → (bytes ledger : List ℕ) �
 verdictLeaves steps o bytes ledger =
     leaves (verdictAnswer steps (o .decision) (length (o .bytes))) (values (o .bytes) over bytes) (twoTicks (o .bytes) over ledger)
 
--- A recording whose form was tested. At a refusal "no lent byte or number changes".
-unfoldable pub judgedInForm : Limits → (file : List ℕ) → Form → (bytes ledger : List ℕ) → Judged
-judgedInForm L file (Refused refusal step) bytes ledger = leaves (refused (refusalNumber refusal) step) bytes ledger
-judgedInForm L file (Good n) bytes ledger =
+-- Steps whose form was tested. At a refusal "no lent byte or number changes".
+unfoldable pub judgedInForm : Limits → List Step → Form → (bytes ledger : List ℕ) → Judged
+judgedInForm L steps (Refused refusal step) bytes ledger = leaves (refused refusal step) bytes ledger
+judgedInForm L steps (Good n) bytes ledger =
     -- 9: "byte buffer under 1,000 places, or ledger under 2,000"
-    if ltb (length bytes) byteRoom then leaves (refused 9 0) bytes ledger else
-    if ltb (length ledger) ledgerRoom then leaves (refused 9 0) bytes ledger else
-    verdictLeaves (stepsOf file) (outcome L (tickList file)) bytes ledger
+    if ltb (length bytes) byteRoom then leaves (refused ShortBuffers 0) bytes ledger else
+    if ltb (length ledger) ledgerRoom then leaves (refused ShortBuffers 0) bytes ledger else
+    verdictLeaves steps (outcome L (tickLines steps)) bytes ledger
 
 -- What the judge gives: the form is tested first (1 to 8), then the room (9), and then the recording is read.
 unfoldable pub judged : Limits → (file bytes ledger : List ℕ) → Judged
-judged L file bytes ledger = judgedInForm L file (formOf file) bytes ledger
+judged L file bytes ledger = judgedInForm L (stepsOf file) (formOf file) bytes ledger

@@ -2,6 +2,6 @@
 pub mod Judged
 pub mod Reading
 pub mod Demand3
+pub mod Promise
 pub mod Mission
 pub mod LongFiles
-pub mod Samples

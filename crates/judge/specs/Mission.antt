@@ -3,6 +3,7 @@ use Prim.Native.Nat.{ℕ, suc, _<_, _≤_}
 use mathlib.Core.Path.{_≡_}
 use mathlib.Core.List.{List}
 use mathlib.Core.Logic.{_↔_}
+use Rattle.answer.specs.Numbers.{IsVerdict}
 use Rattle.answer.specs.declared.Answer.{Answer}
 use Rattle.recording.specs.Layout.{headerAt}
 use Rattle.recording.specs.Ticks.{stepsFrom, totalTicks}
@@ -14,11 +15,6 @@ use Rattle.transfer.specs.declared.limits.Limits.{Limits}
 use Rattle.transfer.specs.declared.phase.Phase.the-variants.{End}
 use Rattle.judge.specs.Judged.{Judged, leaves, judged, tickList}
 use Rattle.judge.specs.Demand3.{GoodWithRoom}
-
--- The numbers of the verdicts. Any other number that the judge gives is a refusal's.
-pub record IsVerdict (number : ℕ) : Type 0 where
-  pub least : 20 ≤ number
-  pub most : number ≤ 37
 
 -- The step of a file that holds a tick: it has begun by then, and is not over.
 pub record Holds (file : List ℕ) (tick step : ℕ) : Type 0 where

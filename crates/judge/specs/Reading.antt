@@ -6,7 +6,7 @@ use lib.Dec.{eqb}
 use lib.ListN.{length, set}
 use Rattle.answer.specs.Lent.{_over_}
 use Rattle.answer.specs.declared.Answer.{Answer}
-use Rattle.recording.specs.Choice.{if_then_else_}
+use Rattle.answer.specs.Choice.{if_then_else_}
 use Rattle.recording.specs.Layout.{mostSteps, fileLength}
 use Rattle.recording.specs.Ticks.{stepsFrom}
 use Rattle.recording.specs.declared.step.Step.{Step}

@@ -9,9 +9,9 @@
 mod handed;
 
 use crate::handed::print_handed;
-use bench::print_answer;
-use bench::print_failure;
-use bench::read_source;
+use files::print_answer;
+use files::print_failure;
+use files::read_source;
 use libc::STDOUT_FILENO;
 
 // The room is longer than any recording. A longer file than the room is judged by its beginning, and what the judge says of that is what

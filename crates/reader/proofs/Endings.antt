@@ -1,18 +1,19 @@
 -- What the code's `if let` and `_` tell of a phase: its place among the variants of `Phase`, `Hold` being 2, `Carried` 10, E 11 and
 -- `Decided` 12. Assumes nothing.
 use Prim.Native.Nat.{ℕ}
-use mathlib.Core.Path.{_≡_, refl}
+use mathlib.Core.Path.{_≡_, refl, sym, ap, subst}
 use mathlib.Core.Bool.{false}
 use mathlib.Core.List.{List, [], _∷_}
 use denote.Enum.Declared.{tagOf}
 use types.Run.{OneOf, miss}
-use Rattle.transfer.specs.Moves.{isDecided, noByte, heldByte, decisionOf}
-use Rattle.transfer.specs.Verdicts.{cutAt}
+use Rattle.transfer.specs.Moves.{Stage, hasFallen, isDecided, noByte, heldByte, decisionIn, decisionOf}
+use Rattle.transfer.specs.Decisions.{cutAt}
 use Rattle.transfer.specs.declared.phase.Phase.{Phase}
 use Rattle.transfer.specs.declared.phase.Phase.the-variants.{Start, FirstHold, Hold, ReadyToSend, ReadyForData}
 use Rattle.transfer.specs.declared.phase.Phase.the-variants.{Acknowledgement, Acknowledged, SetUp, Valid, Open, Carried}
 use Rattle.transfer.specs.declared.phase.Phase.the-variants.{End, Decided}
 use Rattle.transfer.proofs.phase.Phase.{the-type}
+use Rattle.transfer.proofs.Stages.{Told, is-running, is-end, is-decided, told}
 
 abbrev notDecided : List ℕ
 notDecided = 0 ∷ 1 ∷ 2 ∷ 3 ∷ 4 ∷ 5 ∷ 6 ∷ 7 ∷ 8 ∷ 9 ∷ 10 ∷ 11 ∷ []
@@ -26,20 +27,24 @@ notHeld = 0 ∷ 1 ∷ 3 ∷ 4 ∷ 5 ∷ 6 ∷ 7 ∷ 8 ∷ 9 ∷ 11 ∷ 12 ∷ []
 abbrev Among : (places : List ℕ) → Phase → Type 0
 Among places p = OneOf places (tagOf the-type p)
 
+among : (places : List ℕ) {p q : Phase} → p ≡ q → Among places p → Among places q
+among places e h = subst (λ (p : Phase). Among places p) e h
+
 pub undecided : (p : Phase) → Among notDecided p → false ≡ isDecided p
-undecided Start d = refl
-undecided FirstHold d = refl
-undecided (Hold end-mark value take let-go) d = refl
-undecided (ReadyToSend some-handed ended) d = refl
-undecided (ReadyForData some-handed since) d = refl
-undecided (Acknowledgement some-handed since ready-tick) d = refl
-undecided (Acknowledged some-handed since ready-tick) d = refl
-undecided (SetUp end-mark value last since bits-left) d = refl
-undecided (Valid end-mark value bit since bits-left) d = refl
-undecided (Open end-mark value since let-go) d = refl
-undecided (Carried end-mark value since) d = refl
-undecided (End finish) d = refl
-undecided (Decided fault) d = absurd (miss notDecided 12 tt d)
+undecided p d = by-stage (told p)
+  where
+    by-stage : Told p → false ≡ isDecided p
+    by-stage (is-running r) = sym (ap hasFallen r)
+    by-stage (is-end finish r) = sym (ap isDecided r)
+    by-stage (is-decided fault r) = absurd (miss notDecided 12 tt (among notDecided r d))
+
+pub cut-short : (p : Phase) (tick : ℕ) → Among notEnd p → Among notDecided p → cutAt tick ≡ decisionOf p tick
+cut-short p tick e d = by-stage (told p)
+  where
+    by-stage : Told p → cutAt tick ≡ decisionOf p tick
+    by-stage (is-running r) = sym (ap (λ (g : Stage). decisionIn g tick) r)
+    by-stage (is-end finish r) = absurd (miss notEnd 11 tt (among notEnd r e))
+    by-stage (is-decided fault r) = absurd (miss notDecided 12 tt (among notDecided r d))
 
 pub none-held : (p : Phase) → Among notHeld p → noByte ≡ heldByte p
 none-held Start h = refl
@@ -55,18 +60,3 @@ none-held (Open end-mark value since let-go) h = refl
 none-held (Carried end-mark value since) h = absurd (miss notHeld 10 tt h)
 none-held (End finish) h = refl
 none-held (Decided fault) h = refl
-
-pub cut-short : (p : Phase) (tick : ℕ) → Among notEnd p → Among notDecided p → cutAt tick ≡ decisionOf p tick
-cut-short Start tick e d = refl
-cut-short FirstHold tick e d = refl
-cut-short (Hold end-mark value take let-go) tick e d = refl
-cut-short (ReadyToSend some-handed ended) tick e d = refl
-cut-short (ReadyForData some-handed since) tick e d = refl
-cut-short (Acknowledgement some-handed since ready-tick) tick e d = refl
-cut-short (Acknowledged some-handed since ready-tick) tick e d = refl
-cut-short (SetUp end-mark value last since bits-left) tick e d = refl
-cut-short (Valid end-mark value bit since bits-left) tick e d = refl
-cut-short (Open end-mark value since let-go) tick e d = refl
-cut-short (Carried end-mark value since) tick e d = refl
-cut-short (End finish) tick e d = absurd (miss notEnd 11 tt e)
-cut-short (Decided fault) tick e d = absurd (miss notDecided 12 tt d)

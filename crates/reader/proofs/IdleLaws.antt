@@ -7,13 +7,13 @@ use mathlib.Core.List.{_++_}
 use lib.Dec.{ltb}
 use lib.ListN.{replicate}
 use borrow.Author.Tests.{lt-ltb, le-ltb, ltb-true, ltb-false, eq-eqb}
-use Rattle.transfer.specs.Choice.{if_then_else_}
+use Rattle.answer.specs.Choice.{if_then_else_}
 use Rattle.transfer.specs.Offsets.{below}
 use Rattle.transfer.specs.Phases.{Move, Go, Hand, Stop, next, same}
 use Rattle.transfer.specs.Moves.{isDecided, move}
 use Rattle.reader.specs.States.{follow, nextState}
 use Rattle.reader.specs.After.{stateAfter, handedIn, handedOver}
-use Rattle.reader.specs.Idle.{ticksBelow, idleTicks, later, Idle, IdleLaw}
+use Rattle.reader.specs.Idle.{ticksBelow, Lasts, always, until, lasts, ticksIn, idleTicks, later, Idle, IdleLaw}
 use Rattle.transfer.specs.declared.limits.Limits.{Limits}
 use Rattle.transfer.specs.declared.lines.Lines.{Lines}
 use Rattle.transfer.specs.declared.phase.Phase.{Phase}
@@ -21,8 +21,9 @@ use Rattle.transfer.specs.declared.phase.Phase.the-variants.{Start, FirstHold, 
 use Rattle.transfer.specs.declared.phase.Phase.the-variants.{Acknowledgement, Acknowledged, SetUp, Valid, Open, Carried}
 use Rattle.transfer.specs.declared.phase.Phase.the-variants.{End, Decided}
 use Rattle.reader.specs.declared.state.State.{State}
-use Rattle.transfer.specs.declared.verdict.Fault.the-variants.{Attention}
+use Rattle.answer.specs.declared.verdict.Fault.the-variants.{Attention}
 use Rattle.transfer.proofs.Rows.{Climbs, stops, goes, hands, climbs, rests, settled}
+use Rattle.transfer.proofs.Stages.{undecided, undecided-move}
 
 -- The ticks below an offset, counted.
 pub all-below : (n since now most : ℕ) → now + most < since + n → most ≡ ticksBelow n since now most
@@ -54,20 +55,9 @@ each-below n since now most j = by-test (ltb (now + most) (since + n)) refl
 pub idle-told : (L : Limits) (now most : ℕ) {p q : Phase} → p ≡ q → idleTicks L q now most ≡ idleTicks L p now most
 idle-told L now most e = sym (ap (λ (p : Phase). idleTicks L p now most) e)
 
-few-idle : (L : Limits) (p : Phase) (now most : ℕ) → idleTicks L p now most ≤ most
-few-idle L Start now most = few-below _ _ now most
-few-idle L FirstHold now most = omega arith
-few-idle L (Hold end-mark value take let-go) now most = omega arith
-few-idle L (ReadyToSend some-handed ended) now most = omega arith
-few-idle L (ReadyForData some-handed since) now most = few-below _ _ now most
-few-idle L (Acknowledgement some-handed since ready-tick) now most = few-below _ _ now most
-few-idle L (Acknowledged some-handed since ready-tick) now most = few-below _ _ now most
-few-idle L (SetUp end-mark value last since bits-left) now most = few-below _ _ now most
-few-idle L (Valid end-mark value bit since bits-left) now most = few-below _ _ now most
-few-idle L (Open end-mark value since let-go) now most = few-below _ _ now most
-few-idle L (Carried end-mark value since) now most = omega arith
-few-idle L (End finish) now most = omega arith
-few-idle L (Decided fault) now most = omega arith
+few-idle : (x : Lasts) (now most : ℕ) → ticksIn x now most ≤ most
+few-idle always now most = omega arith
+few-idle (until n since) now most = few-below n since now most
 
 same-is : (a b : Bool) → same a b ≡ true → b ≡ a
 unfolding same
@@ -118,8 +108,8 @@ kept-row L (Decided fault) c d now most j e h = absurd (false≢true e)
 
 kept : (L : Limits) (p : Phase) (l : Lines) (now most j : ℕ) → settled p l ≡ true → j < idleTicks L p now most
     → move L (now + j) p l ≡ Go p
-unfolding move
-kept L p l now most j = by-atn (l .atn) (l .clk) (l .«data»)
+kept L p l now most j e h =
+    undecided-move L (now + j) p l (undecided p l e) ∙ by-atn (l .atn) (l .clk) (l .«data») e h
   where
     by-atn : (a c d : Bool) → (not a && rests p c d) ≡ true → j < idleTicks L p now most
         → (if a then Stop Attention else next L (now + j) p c d) ≡ Go p
@@ -136,23 +126,17 @@ module _ (L : Limits) (s : State) (l : Lines) where
 
   led : isDecided (nextState L s l .phase) ≡ false → settled (nextState L s l .phase) l ≡ true
   unfolding nextState
-  led = by-test (isDecided (s .phase)) refl
-    where
-      by-test : (v : Bool) → isDecided (s .phase) ≡ v
-          → isDecided ((if v then s else follow s (move L (s .tick) (s .phase) l)) .phase) ≡ false
-          → settled ((if v then s else follow s (move L (s .tick) (s .phase) l)) .phase) l ≡ true
-      by-test true ev u = absurd (false≢true (sym u ∙ ev))
-      by-test false ev u = moved _ (climbs L (s .tick) (s .phase) l) u
+  led u = moved _ (climbs L (s .tick) (s .phase) l) u
 
 -- The same state at another tick.
 abbrev at-tick : State → ℕ → State
 at-tick s n = record { phase = s .phase; tick = n; count = s .count }
 
 -- A tick that keeps the phase.
-one-later : (L : Limits) (l : Lines) (s : State) (j : ℕ) → isDecided (s .phase) ≡ false
+one-later : (L : Limits) (l : Lines) (s : State) (j : ℕ)
     → move L (s .tick + j) (s .phase) l ≡ Go (s .phase) → nextState L (later s j) l ≡ later s (suc j)
 unfolding nextState follow
-one-later L l s j u e = rw (u, e) (ap (at-tick s) (omega arith))
+one-later L l s j e = rw e (ap (at-tick s) (omega arith))
 
 -- Ticks that each keep the phase, one after another.
 idles : (L : Limits) (l : Lines) (k : ℕ) (s : State) → ((j : ℕ) → j < k → nextState L (later s j) l ≡ later s (suc j)) → Idle L s l k
@@ -181,8 +165,8 @@ pub idle-law : IdleLaw
 idle-law L s l most =
     let t = nextState L s l in
     record {
-      few = few-idle L (t .phase) (t .tick) most;
+      few = few-idle (lasts L (t .phase)) (t .tick) most;
       idle = λ u.
           let at = led L s l u in
-          idles L l _ t (λ j h. one-later L l t j u (kept L (t .phase) l (t .tick) most j at h));
+          idles L l _ t (λ j h. one-later L l t j (kept L (t .phase) l (t .tick) most j at h));
     }

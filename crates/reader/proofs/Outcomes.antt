@@ -7,7 +7,7 @@ use mathlib.Core.Path.{_≡_, refl, sym, ap, ap₂, _∙_}
 use mathlib.Core.Bool.{true, false}
 use mathlib.Core.List.{List, [], _∷_, _++_}
 use borrow.Author.Tests.{eq-eqb, ne-eqb}
-use Rattle.transfer.specs.Choice.{if_then_else_}
+use Rattle.answer.specs.Choice.{if_then_else_}
 use Rattle.transfer.specs.Phases.{Move, Go, Hand, Stop}
 use Rattle.transfer.specs.Moves.{move, isDecided, heldByte, decisionOf}
 use Rattle.transfer.specs.Outcome.{Outcome, decided, give, onward, run, outcome}
@@ -16,9 +16,9 @@ use Rattle.transfer.specs.declared.lines.Lines.{Lines}
 use Rattle.transfer.specs.declared.phase.Byte.{Byte}
 use Rattle.transfer.specs.declared.phase.Phase.{Phase}
 use Rattle.transfer.specs.declared.phase.Phase.the-variants.{Start}
-use Rattle.transfer.specs.declared.verdict.Fault.{Fault}
+use Rattle.answer.specs.declared.verdict.Fault.{Fault}
 use Rattle.transfer.proofs.Rows.{Climbs, stops, goes, hands, climbs, settled}
-use Rattle.transfer.proofs.Undecided.{undecided}
+use Rattle.transfer.proofs.Stages.{undecided}
 use Rattle.reader.specs.States.{firstState, follow, nextState}
 use Rattle.reader.specs.After.{stateAfter, handedIn, handedOver, outcomeFrom, OutcomeLaw}
 use Rattle.reader.specs.declared.state.State.{State}
@@ -73,16 +73,14 @@ module _ (L : Limits) where
     moved {l = l} (Hand b p) (hands a f e held taken) =
         one-handed s (follow s (Hand b p)) w (λ z. omega (arith, z)) ∙ ap₂ give (sym held) (next-run p _ l e)
 
-    one-more : isDecided (s .phase) ≡ false → (l : Lines)
-        → outcomeFrom L s (l ∷ w) ≡ onward (move L (s .tick) (s .phase) l) (s .tick) beyond
+    one-more : (l : Lines) → outcomeFrom L s (l ∷ w) ≡ onward (move L (s .tick) (s .phase) l) (s .tick) beyond
     unfolding nextState
-    one-more u l =
-        tick-read s (follow s (move L (s .tick) (s .phase) l)) l w (rw u) ∙ moved _ (climbs L (s .tick) (s .phase) l)
+    one-more l = tick-read s (follow s (move L (s .tick) (s .phase) l)) l w refl ∙ moved _ (climbs L (s .tick) (s .phase) l)
 
   outcome-run : (w : List Lines) → Runs w
   unfolding run stateAfter handedOver
   outcome-run [] s u = refl
-  outcome-run (l ∷ w) s u = one-more w (outcome-run w) s u l
+  outcome-run (l ∷ w) s u = one-more w (outcome-run w) s l
 
 pub outcome-states : OutcomeLaw
 outcome-states L w = sym (outcome-run L w firstState refl)

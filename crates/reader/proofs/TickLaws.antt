@@ -1,23 +1,31 @@
 -- What a loop over the ticks keeps. Assumes nothing.
 use Prim.Native.Nat.{_+_, _≤_}
 use native.Mathlib.Omega.{arith}
-use mathlib.Core.Path.{_≡_, refl, ap, subst, _∙_}
-use mathlib.Core.Bool.{Bool, true, false}
-use mathlib.Core.List.{[], _∷_, _++_}
+use mathlib.Core.Path.{_≡_, refl, sym, ap, subst, _∙_}
+use mathlib.Core.Bool.{Bool, true, false, true≢false}
+use mathlib.Core.List.{List, [], _∷_, _++_}
 use lib.Dec.{eqb}
 use lib.ListN.{length}
 use borrow.Author.Tests.{eqb-true, eqb-false, eq-eqb}
-use Rattle.transfer.specs.Choice.{if_then_else_}
+use Rattle.answer.specs.Choice.{if_then_else_}
 use Rattle.transfer.specs.Phases.{Move, Go, Hand, Stop}
-use Rattle.transfer.specs.Moves.{isDecided, heldByte, move}
+use Rattle.transfer.specs.Moves.{hasFallen, isDecided, heldByte, move}
 use Rattle.reader.specs.States.{follow, nextState}
 use Rattle.reader.specs.After.{stateAfter, handedIn, handedOver}
-use Rattle.reader.specs.TickLaws.{OneTick, OneTickLaw, CountLaw, StandsLaw}
 use Rattle.transfer.specs.declared.limits.Limits.{Limits}
 use Rattle.transfer.specs.declared.lines.Lines.{Lines}
 use Rattle.transfer.specs.declared.phase.Byte.{Byte}
+use Rattle.transfer.specs.declared.phase.Phase.{Phase}
 use Rattle.transfer.proofs.Rows.{Climbs, stops, goes, hands, climbs}
+use Rattle.transfer.proofs.Stages.{Told, is-running, is-end, is-decided, told}
 use Rattle.reader.specs.declared.state.State.{State}
+
+-- A tick that is read moves the state's tick on by one at most, and its count too. A byte that it hands over was taken by then.
+pub record OneTick (s t : State) : Type 0 where
+  pub tick-most : t .tick ≤ s .tick + 1
+  pub count-least : s .count ≤ t .count
+  pub count-most : t .count ≤ s .count + 1
+  pub taken : (t .count ≡ s .count → ⊥) → heldByte (s .phase) .take ≤ s .tick
 
 -- A tick that hands no byte over, and one that does.
 goes-on : (s t : State) → t .tick ≤ s .tick + 1 → t .count ≡ s .count → OneTick s t
@@ -36,15 +44,12 @@ one-move s (Hand b p) (hands m f e held taken) =
     }
 one-move s (Stop f) stops = goes-on s _ (omega arith) refl
 
-pub one-tick : OneTickLaw
+pub one-tick : (L : Limits) (s : State) (l : Lines) → OneTick s (nextState L s l)
 unfolding nextState
-one-tick L s l = by-test (isDecided (s .phase))
-  where
-    by-test : (u : Bool) → OneTick s (if u then s else follow s (move L (s .tick) (s .phase) l))
-    by-test true = goes-on s s (omega arith) refl
-    by-test false = one-move s _ (climbs L (s .tick) (s .phase) l)
+one-tick L s l = one-move s _ (climbs L (s .tick) (s .phase) l)
 
-pub counts : CountLaw
+-- The count rises by the bytes that are handed over.
+pub counts : (L : Limits) (w : List Lines) (s : State) → stateAfter L s w .count ≡ s .count + length (handedOver L s w)
 unfolding stateAfter handedOver
 counts L [] s = omega arith
 counts L (l ∷ w) s = by-test (eqb (nextState L s l .count) (s .count)) refl (counts L w (nextState L s l))
@@ -58,11 +63,25 @@ counts L (l ∷ w) s = by-test (eqb (nextState L s l .count) (s .count)) refl (c
         let c = one-tick L s l in
         omega (arith, eqb-false (nextState L s l .count) (s .count) e, c .count-least, c .count-most)
 
-no-change : (L : Limits) (s : State) (l : Lines) → isDecided (s .phase) ≡ true → nextState L s l ≡ s
-unfolding nextState
-no-change L s l u = rw u
+-- A verdict stands.
+pub no-change : (L : Limits) (s : State) (l : Lines) → isDecided (s .phase) ≡ true → nextState L s l ≡ s
+unfolding nextState follow move
+no-change L s l u = by-stage (told (s .phase))
+  where
+    in-phase : Phase → State
+    in-phase p = record { phase = p; tick = s .tick; count = s .count }
 
-pub stands : StandsLaw
+    by-stage : Told (s .phase) → nextState L s l ≡ s
+    by-stage (is-running r) = absurd (true≢false (sym u ∙ ap hasFallen r))
+    by-stage (is-end finish r) = absurd (true≢false (sym u ∙ ap isDecided r))
+    by-stage (is-decided fault r) = ap (λ (p : Phase). nextState L (in-phase p) l) r ∙ sym (ap in-phase r)
+
+-- "Stops for good": no tick changes a decided state or hands a byte over, so a loop may leave at the deciding tick.
+pub record Stands (L : Limits) (s : State) (w : List Lines) : Type 0 where
+  pub state : stateAfter L s w ≡ s
+  pub bytes : handedOver L s w ≡ []
+
+pub stands : (L : Limits) (s : State) (w : List Lines) → isDecided (s .phase) ≡ true → Stands L s w
 unfolding stateAfter handedOver
 stands L s [] u = record { state = refl; bytes = refl }
 stands L s (l ∷ w) u =

@@ -2,7 +2,7 @@
 use mathlib.Core.Path.{_≡_}
 use mathlib.Core.List.{List, [], _∷_, _++_}
 use lib.Dec.{eqb}
-use Rattle.transfer.specs.Choice.{if_then_else_}
+use Rattle.answer.specs.Choice.{if_then_else_}
 use Rattle.transfer.specs.Moves.{heldByte, decisionOf}
 use Rattle.transfer.specs.Outcome.{Outcome, outcome}
 use Rattle.transfer.specs.declared.limits.Limits.{Limits}

@@ -6,7 +6,7 @@ use mathlib.Core.Bool.{false}
 use mathlib.Core.List.{List, _++_}
 use lib.Dec.{ltb}
 use lib.ListN.{replicate}
-use Rattle.transfer.specs.Choice.{if_then_else_}
+use Rattle.answer.specs.Choice.{if_then_else_}
 use Rattle.transfer.specs.Moves.{isDecided}
 use Rattle.reader.specs.States.{nextState}
 use Rattle.reader.specs.After.{stateAfter, handedOver}
@@ -22,22 +22,33 @@ use Rattle.reader.specs.declared.state.State.{State}
 unfoldable pub ticksBelow : (n since now most : ℕ) → ℕ
 ticksBelow n since now most = if ltb (now + most) (since + n) then most else since + n - now
 
--- How many of `most` further ticks are idle, `now` being the first and their lines those of the tick before it: those before the limit of
--- the phase's row that stays, or all where that row has none.
+-- How long the row lasts by which a phase stays in the same lines: without end, or while the offset from `since` is below n.
+pub data Lasts : Type 0 where
+  always : Lasts
+  until : (n since : ℕ) → Lasts
+
+abbrev pub lasts : Limits → Phase → Lasts
+lasts L Start = until (L .presence) 0
+lasts L FirstHold = always
+lasts L (Hold end-mark value take let-go) = always
+lasts L (ReadyToSend some-handed ended) = always
+lasts L (ReadyForData some-handed since) = until (L .«end_mark_latest») since
+lasts L (Acknowledgement some-handed since ready-tick) = until (L .«acknowledge_most») since
+lasts L (Acknowledged some-handed since ready-tick) = until (L .«sender_timeout») ready-tick
+lasts L (SetUp end-mark value last since bits-left) = until (L .«set_up_most») since
+lasts L (Valid end-mark value bit since bits-left) = until (L .«valid_most») since
+lasts L (Open end-mark value since let-go) = until (L .«take_latest») since
+lasts L (Carried end-mark value since) = always
+lasts L (End finish) = always
+lasts L (Decided fault) = always
+
+-- How many of `most` further ticks are idle, `now` being the first and their lines those of the tick before it.
+abbrev pub ticksIn : Lasts → (now most : ℕ) → ℕ
+ticksIn always now most = most
+ticksIn (until n since) now most = ticksBelow n since now most
+
 abbrev pub idleTicks : Limits → Phase → (now most : ℕ) → ℕ
-idleTicks L Start now most = ticksBelow (L .presence) 0 now most
-idleTicks L FirstHold now most = most
-idleTicks L (Hold end-mark value take let-go) now most = most
-idleTicks L (ReadyToSend some-handed ended) now most = most
-idleTicks L (ReadyForData some-handed since) now most = ticksBelow (L .«end_mark_latest») since now most
-idleTicks L (Acknowledgement some-handed since ready-tick) now most = ticksBelow (L .«acknowledge_most») since now most
-idleTicks L (Acknowledged some-handed since ready-tick) now most = ticksBelow (L .«sender_timeout») ready-tick now most
-idleTicks L (SetUp end-mark value last since bits-left) now most = ticksBelow (L .«set_up_most») since now most
-idleTicks L (Valid end-mark value bit since bits-left) now most = ticksBelow (L .«valid_most») since now most
-idleTicks L (Open end-mark value since let-go) now most = ticksBelow (L .«take_latest») since now most
-idleTicks L (Carried end-mark value since) now most = most
-idleTicks L (End finish) now most = most
-idleTicks L (Decided fault) now most = most
+idleTicks L phase now most = ticksIn (lasts L phase) now most
 
 -- The same state, so many ticks later.
 abbrev pub later : State → (ticks : ℕ) → State

@@ -1,5 +1,4 @@
 -- What the code that reads a transfer promises: one tick of its state, the ticks one after another, and idle ticks.
 pub mod States
 pub mod After
-pub mod TickLaws
 pub mod Idle

@@ -1,7 +1,6 @@
 -- "Reading goes from state to state, one tick after another, and stops for good at the deciding tick."
 use Prim.Native.Nat.{_+_, _<_, _^_}
-use Rattle.transfer.specs.Choice.{if_then_else_}
-use Rattle.transfer.specs.Moves.{isDecided, move}
+use Rattle.transfer.specs.Moves.{move}
 use Rattle.transfer.specs.Phases.{Move, Go, Hand, Stop, next}
 use Rattle.transfer.specs.declared.limits.Limits.{Limits}
 use Rattle.transfer.specs.declared.lines.Lines.{Lines}
@@ -28,9 +27,9 @@ follow s (Stop fault) = record { phase = Decided fault; tick = s .tick; count = 
 abbrev pub readIn : Limits → State → Phase → Lines → State
 readIn L s phase lines = follow s (next L (s .tick) phase (lines .clk) (lines .«data»))
 
--- One tick: a verdict stands for good.
+-- One tick.
 unfoldable pub nextState : Limits → State → Lines → State
-nextState L s lines = if isDecided (s .phase) then s else follow s (move L (s .tick) (s .phase) lines)
+nextState L s lines = follow s (move L (s .tick) (s .phase) lines)
 
 -- The next tick and the next count are 32-bit numbers.
 pub record Countable (s : State) : Type 0 where

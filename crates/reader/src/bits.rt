@@ -4,7 +4,7 @@ ghost use Rattle.transfer.specs.Phases.{same, withBit};
 ghost use Rattle.reader.specs.States.{readIn, Countable};
 use crate::offset::below;
 use crate::state::State;
-use transfer::Fault;
+use answer::Fault;
 use transfer::Limits;
 use transfer::Lines;
 use transfer::Phase;

@@ -3,7 +3,7 @@ ghost use mathlib.Core.Path.{_≡_};
 ghost use Rattle.reader.specs.States.{readIn, Countable};
 use crate::offset::below;
 use crate::state::State;
-use transfer::Fault;
+use answer::Fault;
 use transfer::Limits;
 use transfer::Lines;
 use transfer::Phase;

@@ -4,7 +4,7 @@ ghost use Rattle.transfer.specs.Phases.{handover};
 ghost use Rattle.reader.specs.States.{follow, readIn, Countable};
 use crate::offset::up_to;
 use crate::state::State;
-use transfer::Fault;
+use answer::Fault;
 use transfer::Limits;
 use transfer::Lines;
 use transfer::Phase;

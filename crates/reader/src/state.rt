@@ -1,6 +1,6 @@
 // The state of the reading, and one tick of it.
 ghost use mathlib.Core.Path.{_≡_};
-ghost use Rattle.transfer.specs.Choice.{if_then_else_};
+ghost use Rattle.answer.specs.Choice.{if_then_else_};
 ghost use Rattle.transfer.specs.Offsets.{below, upTo};
 ghost use Prim.Native.Nat.{_<_, _^_};
 ghost use Rattle.transfer.specs.Moves.{isDecided, heldByte, decisionOf};
@@ -8,9 +8,9 @@ ghost use Rattle.transfer.specs.Phases.{Go, Stop};
 ghost use Rattle.reader.specs.States.{follow, handedOn, readIn, nextState, firstState, Countable};
 use crate::offset::below;
 use crate::offset::up_to;
+use answer::Fault;
 use transfer::Byte;
 use transfer::Decision;
-use transfer::Fault;
 use transfer::Limits;
 use transfer::Lines;
 use transfer::Phase;

@@ -12,10 +12,10 @@ use Rattle.recording.specs.Ticks.{stepsFrom, stepsOf, totalTicks}
 use Rattle.recording.specs.Form.{headerTest, stepTest, afterTest, stepsForm, totalForm, bodyForm, formOf}
 use Rattle.recording.specs.declared.header.Header.{Header}
 use Rattle.recording.specs.declared.step.Step.{Step}
-use Rattle.recording.specs.declared.refusal.Refusal.{Refusal}
-use Rattle.recording.specs.declared.refusal.Refusal.the-variants.{ShortFile}
-use Rattle.recording.specs.declared.refusal.Test.{Test}
-use Rattle.recording.specs.declared.refusal.Test.the-variants.{Passed, Failed}
+use Rattle.answer.specs.declared.refusal.Refusal.{Refusal}
+use Rattle.answer.specs.declared.refusal.Refusal.the-variants.{ShortFile}
+use Rattle.recording.specs.declared.test.Test.{Test}
+use Rattle.recording.specs.declared.test.Test.the-variants.{Passed, Failed}
 use Rattle.recording.specs.declared.form.Form.{Form}
 use Rattle.recording.specs.declared.form.Form.the-variants.{Refused}
 use Rattle.recording.proofs.StepLaws.{steps-begin, steps-end}

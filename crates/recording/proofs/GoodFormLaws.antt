@@ -7,7 +7,7 @@ use native.Mathlib.Omega.{arith}
 use lib.Dec.{ltb}
 use borrow.Author.Tests.{le-ltb, eq-eqb}
 use lib.ListN.{length}
-use Rattle.recording.specs.Choice.{differs}
+use Rattle.answer.specs.Choice.{differs}
 use Rattle.recording.specs.Layout.{headerAt, stepAt, headerSize, fileLength}
 use Rattle.recording.specs.Ticks.{stepsFrom, stepsOf, totalTicks, ticksOf}
 use Rattle.recording.specs.Form.{headerTest, stepTest, stepsForm, bodyForm, formOf}

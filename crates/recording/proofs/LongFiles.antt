@@ -7,15 +7,15 @@ use native.Mathlib.Omega.{arith}
 use lib.Dec.{ltb, eqb}
 use lib.ListN.{length, getD, length-append}
 use borrow.Author.Tests.{ltb-false, le-ltb, ne-eqb}
-use Rattle.recording.specs.Choice.{if_then_else_, differs}
+use Rattle.answer.specs.Choice.{if_then_else_, differs}
 use Rattle.recording.specs.Form.{headerTest, formOf}
 use Rattle.recording.specs.Layout.{byteAt, u16At, u32At, headerAt, headerSize, goodVersion, mostSteps, fileLength}
 use Rattle.recording.specs.LongFiles.{longestRecording, longRefusal, LongFormLaw}
 use Rattle.recording.specs.declared.header.Header.{Header}
-use Rattle.recording.specs.declared.refusal.Refusal.{Refusal}
-use Rattle.recording.specs.declared.refusal.Refusal.the-variants.{WrongVersion, TooManySteps, WrongOffset, WrongLength}
-use Rattle.recording.specs.declared.refusal.Test.{Test}
-use Rattle.recording.specs.declared.refusal.Test.the-variants.{Passed, Failed}
+use Rattle.answer.specs.declared.refusal.Refusal.{Refusal}
+use Rattle.answer.specs.declared.refusal.Refusal.the-variants.{WrongVersion, TooManySteps, WrongOffset, WrongLength}
+use Rattle.recording.specs.declared.test.Test.{Test}
+use Rattle.recording.specs.declared.test.Test.the-variants.{Passed, Failed}
 use Rattle.recording.specs.declared.form.Form.the-variants.{Refused}
 
 byte-before : (b r : List ℕ) (k : ℕ) → k < length b → byteAt (b ++ r) k ≡ byteAt b k

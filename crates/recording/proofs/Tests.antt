@@ -5,11 +5,11 @@ use mathlib.Core.Path.{_≡_, refl}
 use native.Mathlib.Omega.{arith}
 use lib.Dec.{eqb}
 use borrow.Author.Tests.{lt-ltb, le-ltb, le-leb, lt-leb, eq-eqb, ne-eqb, eqb-true, not-false}
-use Rattle.recording.specs.Choice.{if_then_else_, differs}
+use Rattle.answer.specs.Choice.{if_then_else_, differs}
 use Rattle.recording.specs.Form.{afterTest}
-use Rattle.recording.specs.declared.refusal.Refusal.{Refusal}
-use Rattle.recording.specs.declared.refusal.Test.{Test}
-use Rattle.recording.specs.declared.refusal.Test.the-variants.{Passed, Failed}
+use Rattle.answer.specs.declared.refusal.Refusal.{Refusal}
+use Rattle.recording.specs.declared.test.Test.{Test}
+use Rattle.recording.specs.declared.test.Test.the-variants.{Passed, Failed}
 use Rattle.recording.specs.declared.form.Form.{Form}
 use Rattle.recording.specs.declared.form.Form.the-variants.{Good, Refused}
 

@@ -3,15 +3,15 @@ use Prim.Native.Nat.{ℕ, suc}
 use mathlib.Core.List.{List, [], _∷_}
 use lib.ListN.{length}
 use lib.Dec.{ltb, leb, eqb}
-use Rattle.recording.specs.Choice.{if_then_else_, differs}
+use Rattle.answer.specs.Choice.{if_then_else_, differs}
 use Rattle.recording.specs.Layout.{headerAt, headerSize, goodVersion, mostSteps, lineBound, fileLength}
 use Rattle.recording.specs.Ticks.{stepsOf, totalTicks}
 use Rattle.recording.specs.declared.header.Header.{Header}
 use Rattle.recording.specs.declared.step.Step.{Step}
-use Rattle.recording.specs.declared.refusal.Refusal.the-variants.{ShortFile, WrongVersion, TooManySteps, WrongOffset}
-use Rattle.recording.specs.declared.refusal.Refusal.the-variants.{WrongLength, ZeroDuration, StrayBits, WrongTotal}
-use Rattle.recording.specs.declared.refusal.Test.{Test}
-use Rattle.recording.specs.declared.refusal.Test.the-variants.{Passed, Failed}
+use Rattle.answer.specs.declared.refusal.Refusal.the-variants.{ShortFile, WrongVersion, TooManySteps, WrongOffset}
+use Rattle.answer.specs.declared.refusal.Refusal.the-variants.{WrongLength, ZeroDuration, StrayBits, WrongTotal}
+use Rattle.recording.specs.declared.test.Test.{Test}
+use Rattle.recording.specs.declared.test.Test.the-variants.{Passed, Failed}
 use Rattle.recording.specs.declared.form.Form.{Form}
 use Rattle.recording.specs.declared.form.Form.the-variants.{Good, Refused}
 

@@ -5,12 +5,12 @@ use mathlib.Core.List.{List, _++_}
 use mathlib.Core.Path.{_≡_}
 use lib.Dec.{ltb}
 use lib.ListN.{length}
-use Rattle.recording.specs.Choice.{if_then_else_, differs}
+use Rattle.answer.specs.Choice.{if_then_else_, differs}
 use Rattle.recording.specs.Form.{formOf}
 use Rattle.recording.specs.Layout.{headerAt, headerSize, goodVersion, mostSteps, fileLength}
 use Rattle.recording.specs.declared.header.Header.{Header}
-use Rattle.recording.specs.declared.refusal.Refusal.{Refusal}
-use Rattle.recording.specs.declared.refusal.Refusal.the-variants.{WrongVersion, TooManySteps, WrongOffset, WrongLength}
+use Rattle.answer.specs.declared.refusal.Refusal.{Refusal}
+use Rattle.answer.specs.declared.refusal.Refusal.the-variants.{WrongVersion, TooManySteps, WrongOffset, WrongLength}
 use Rattle.recording.specs.declared.form.Form.the-variants.{Refused}
 
 -- 16+4n for the largest n: 64,016 bytes.

@@ -6,9 +6,9 @@ ghost use Rattle.recording.specs.Layout.{mostSteps, fileLength};
 ghost use Rattle.recording.specs.Form.{formOf, bodyForm};
 ghost use Rattle.recording.specs.Ticks.{stepsFrom};
 use crate::header::Header;
-use crate::refusal::Refusal;
-use crate::refusal::Test;
 use crate::step::Step;
+use crate::test::Test;
+use answer::Refusal;
 
 pub enum Form {
     // Not refused, with so many steps.

@@ -3,13 +3,13 @@ ghost use mathlib.Core.Path.{_≡_};
 ghost use Prim.Native.Nat.{_≤_};
 ghost use lib.ListN.{length};
 ghost use lib.Seq.{sets};
-ghost use Rattle.recording.specs.Layout.{headerAt, headerSize, mostSteps};
+ghost use Rattle.recording.specs.Layout.{headerAt, headerSize};
 ghost use Rattle.recording.specs.Form.{headerTest};
 ghost use Rattle.recording.specs.FileOf.{headerBytes, goodHeader};
 use crate::fields;
-use crate::refusal::Refusal;
-use crate::refusal::Test;
 use crate::step::Step;
+use crate::test::Test;
+use answer::Refusal;
 
 pub struct Header {
     pub version: u16,
@@ -50,7 +50,6 @@ impl Header {
 
     // The header of a recording of so many steps and ticks.
     pub fn of_steps(steps: u16, total: u32) -> Header
-        requires { ⌜ steps ≤ mostSteps ⌝ }
         ensures { λ r. ⌜ r ≡ goodHeader steps total ⌝ }
     {
         let length = Header::SIZE + Step::SIZE * (steps as usize);

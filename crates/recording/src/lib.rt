@@ -2,11 +2,10 @@
 mod fields;
 mod form;
 mod header;
-mod refusal;
 mod step;
+mod test;
 
 pub use crate::form::Form;
 pub use crate::form::check_form;
 pub use crate::header::Header;
-pub use crate::refusal::Refusal;
 pub use crate::step::Step;

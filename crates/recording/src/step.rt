@@ -8,8 +8,8 @@ ghost use Rattle.recording.specs.Form.{stepTest};
 ghost use Rattle.recording.specs.FileOf.{stepBytes};
 use crate::fields;
 use crate::header::Header;
-use crate::refusal::Refusal;
-use crate::refusal::Test;
+use crate::test::Test;
+use answer::Refusal;
 
 pub struct Step {
     pub duration: u16,

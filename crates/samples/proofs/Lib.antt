@@ -1,3 +1,2 @@
--- The tables of single recordings hold, each by one computation through the definitions: the readings, and the samples of the crate judge.
-pub mod Readings
+-- The tables of whole files hold, each by one computation through the definitions.
 pub mod Samples

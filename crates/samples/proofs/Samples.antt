@@ -9,7 +9,7 @@ use Rattle.transfer.specs.Phases.{next, same, withBit, handover, afterBit}
 use Rattle.transfer.specs.Moves.{move}
 use Rattle.transfer.specs.Outcome.{run}
 use Rattle.judge.specs.Judged.{stepHolding, twoTicks, judgedInForm, judged}
-use Rattle.judge.specs.Samples.{SamplesHold, CutAfterByteHolds, S1Printed, S1Ticks, RefusedSamplesHold}
+use Rattle.samples.specs.Samples.{SamplesHold, CutAfterByteHolds, S1Printed, S1Ticks, RefusedSamplesHold}
 
 pub samples-hold : SamplesHold
 unfolding below upTo next same withBit handover afterBit move run

@@ -1,2 +1,2 @@
--- How document 01 is read where its rows meet.
-pub mod Readings
+-- Document 01's sample recordings, as whole files.
+pub mod Samples

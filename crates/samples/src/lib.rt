@@ -1,1 +1,1 @@
-// No code: single recordings are computed here, so that an edit of the crates below does not wait for them.
+// No code: whole files are computed here, so that an edit of the crates below does not wait for them.

@@ -1,11 +1,10 @@
 // The station's entries for programs in C and Rust. Each hands the lent memory on and the answer back, and does nothing else.
 ghost use mathlib.Core.Path.{_≡_};
-ghost use Rattle.answer.specs.Lent.{first};
 ghost use Rattle.transfer.specs.Limits.{standardLimits};
-ghost use Rattle.judge.specs.Demand3.{GoodWithRoom, FileDemand3};
 ghost use Rattle.judge.specs.Judged as Judged;
+ghost use Rattle.judge.specs.Promise.{JudgePromise};
 ghost use Rattle.writer.specs.Card.{standardCard};
-ghost use Rattle.writer.specs.ReadBack.{ReadsBack, Writable};
+ghost use Rattle.writer.specs.Promise.{WritePromise};
 ghost use Rattle.writer.specs.Written as Written;
 ghost use Rattle.station.specs.Border.{answerOf};
 use answer::Answer;
@@ -34,11 +33,8 @@ fn cross(answer: Answer) -> StationAnswer
 // Judges one data transfer. What `judge` promises, of the answer that crosses.
 #[no_mangle]
 pub extern "C" fn station_judge(file: &[u8], bytes: &mut [u8], ledger: &mut [u32]) -> StationAnswer
-    ensures { λ r. ⌜
-        (Judged.leaves (answerOf r) (now (bytes .exit)) (now (ledger .exit))
-        ≡ Judged.judged standardLimits (now (file .entry)) (now (bytes .entry)) (now (ledger .entry)))
-        × (GoodWithRoom (now (file .entry)) (now (bytes .entry)) (now (ledger .entry))
-        → FileDemand3 standardLimits (now (file .entry)) (Judged.leaves (answerOf r) (now (bytes .exit)) (now (ledger .exit)))) ⌝ }
+    ensures { λ r. ⌜ JudgePromise standardLimits (now (file .entry)) (now (bytes .entry)) (now (ledger .entry))
+        (Judged.leaves (answerOf r) (now (bytes .exit)) (now (ledger .exit))) ⌝ }
 {
     cross(judge::judge(file, bytes, ledger))
 }
@@ -46,11 +42,8 @@ pub extern "C" fn station_judge(file: &[u8], bytes: &mut [u8], ledger: &mut [u32
 // Writes the sample recording of the bytes. What `write` promises, of the answer that crosses.
 #[no_mangle]
 pub extern "C" fn station_write(bytes: &[u8], destination: &mut [u8]) -> StationAnswer
-    ensures { λ r. ⌜
-        (Written.leaves (answerOf r) (now (destination .exit))
-        ≡ Written.written standardCard (now (bytes .entry)) (now (destination .entry)))
-        × (Writable (now (bytes .entry)) (now (destination .entry))
-        → ReadsBack standardLimits (first (r .count) (now (destination .exit))) (now (bytes .entry))) ⌝ }
+    ensures { λ r. ⌜ WritePromise standardLimits standardCard (now (bytes .entry)) (now (destination .entry))
+        (Written.leaves (answerOf r) (now (destination .exit))) ⌝ }
 {
     cross(writer::write(bytes, destination))
 }

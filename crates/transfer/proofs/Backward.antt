@@ -8,11 +8,11 @@ use mathlib.Core.List.{List, [], _∷_, _++_, map}
 use lib.ListN.{replicate}
 use lib.Dec.{ltb, leb, eqb}
 use borrow.Author.Tests.{ltb-true, ltb-false, leb-true, leb-false}
-use Rattle.transfer.specs.Choice.{if_then_else_}
+use Rattle.answer.specs.Choice.{if_then_else_}
 use Rattle.transfer.specs.Offsets.{below, upTo}
 use Rattle.transfer.specs.Phases.{Move, Go, Stop, next, same, withBit, handover, afterBit}
-use Rattle.transfer.specs.Moves.{move}
-use Rattle.transfer.specs.Verdicts.{cutAt}
+use Rattle.transfer.specs.Moves.{Stage, Running, Ended, Fallen, stage, unlessFallen, move, decisionIn}
+use Rattle.transfer.specs.Decisions.{cutAt}
 use Rattle.transfer.specs.Outcome.{Outcome, decided, ended, give, onward, run}
 use Rattle.transfer.specs.Parties.{Pulls, nobody, held, clock, clockHeld, sets, offers, Plan, track}
 use Rattle.transfer.specs.Parties.{sendingBytes, planBytes}
@@ -25,11 +25,12 @@ use Rattle.transfer.specs.declared.phase.Phase.{Phase}
 use Rattle.transfer.specs.declared.phase.Phase.the-variants.{Start, FirstHold, Hold, ReadyToSend, ReadyForData}
 use Rattle.transfer.specs.declared.phase.Phase.the-variants.{Acknowledgement, Acknowledged, SetUp, Valid, Open, Carried}
 use Rattle.transfer.specs.declared.phase.Phase.the-variants.{End, Decided}
-use Rattle.transfer.specs.declared.verdict.Fault.{Fault}
-use Rattle.transfer.specs.declared.verdict.Fault.the-variants.{ClockStall}
-use Rattle.transfer.specs.declared.verdict.Verdict.{Verdict}
-use Rattle.transfer.specs.declared.verdict.Verdict.the-variants.{Complete, Cut, Broken}
+use Rattle.answer.specs.declared.verdict.Fault.{Fault}
+use Rattle.answer.specs.declared.verdict.Fault.the-variants.{Attention, ClockStall}
+use Rattle.answer.specs.declared.verdict.Verdict.{Verdict}
+use Rattle.answer.specs.declared.verdict.Verdict.the-variants.{Complete, Cut, Broken}
 use Rattle.transfer.proofs.Rows.{lines}
+use Rattle.transfer.proofs.Stages.{Told, is-running, is-end, is-decided, told, released-move}
 use Rattle.transfer.proofs.Forward.{shows}
 use Rattle.transfer.proofs.Shapes.{clockKept, leaves, stay, one, many, Tidy, opens, carries, Shape}
 use Rattle.transfer.proofs.Plans.{sends}
@@ -347,26 +348,28 @@ module _ (L : Limits) where
     cut p now = record { prove = λ h. absurd h }
 
     runs-out : (p : Phase) (now : ℕ) → Sound (From p now []) (ended p now)
-    runs-out Start now = cut _ _
-    runs-out FirstHold now = cut _ _
-    runs-out (Hold m v t g) now = cut _ _
-    runs-out (ReadyToSend any ended) now = cut _ _
-    runs-out (ReadyForData any s) now = cut _ _
-    runs-out (Acknowledgement any s ready) now = cut _ _
-    runs-out (Acknowledged any s ready) now = cut _ _
-    runs-out (SetUp m v b s left) now = cut _ _
-    runs-out (Valid m v b s left) now = cut _ _
-    runs-out (Open m v s l) now = cut _ _
-    runs-out (Carried m v s) now = cut _ _
-    runs-out (End f) now =
-        record { prove = λ h. record { js = []; gives = refl; shape = record { count = 0; is = refl; bytes = refl } } }
-    runs-out (Decided f) now = dead _ _ _
+    runs-out p now = by-stage (told p)
+      where
+        by-stage : Told p → Sound (From p now []) (ended p now)
+        by-stage (is-running r) = subst⁻¹ (λ (g : Stage). Sound (From p now []) (record { decision = decisionIn g now; bytes = [] })) r (cut _ _)
+        by-stage (is-end finish r) =
+            subst⁻¹ (λ (q : Phase). Sound (From q now []) (ended q now)) r
+            (record { prove = λ h. record { js = []; gives = refl; shape = record { count = 0; is = refl; bytes = refl } } })
+        by-stage (is-decided fault r) = subst⁻¹ (λ (q : Phase). Sound (From q now []) (ended q now)) r (dead _ _ _)
 
     one-more : (p : Phase) (now : ℕ) (w : List Lines) (a c d : Bool) → Holds w → InTime p now
         → Sound (From p now (record { atn = a; clk = c; «data» = d } ∷ w)) (run L now p (record { atn = a; clk = c; «data» = d } ∷ w))
     unfolding run move
-    one-more p now w true c d ih i = dead _ _ _
-    one-more p now w false c d ih i = row p c d now w ih i
+    one-more p now w true c d ih i = by-stage (stage p)
+      where
+        by-stage : (g : Stage) → Sound (From p now (record { atn = true; clk = c; «data» = d } ∷ w))
+            (onward (unlessFallen g (Stop Attention)) now (λ (q : Phase). run L (suc now) q w))
+        by-stage Running = dead _ _ _
+        by-stage (Ended finish) = dead _ _ _
+        by-stage (Fallen fault) = dead _ _ _
+    one-more p now w false c d ih i =
+        subst⁻¹ (λ (x : Move). Sound (From p now (lines c d ∷ w)) (onward x now (λ (q : Phase). run L (suc now) q w)))
+        (released-move L now p c d) (row p c d now w ih i)
 
     sound : (w : List Lines) → Holds w
     unfolding run

@@ -5,7 +5,7 @@ use mathlib.Core.Path.{_≡_}
 use mathlib.Core.Bool.{Bool, true, false}
 use mathlib.Core.List.{List, [], _∷_, map}
 use lib.ListN.{length}
-use Rattle.transfer.specs.Choice.{if_then_else_}
+use Rattle.answer.specs.Choice.{if_then_else_}
 use Rattle.transfer.specs.Phases.{withBit}
 use Rattle.transfer.specs.Parties.{Bit, valueOf}
 use Rattle.transfer.specs.Rules.{lastOf}

@@ -6,36 +6,23 @@ use mathlib.Core.Bool.{Bool, true, false, true≢false}
 use mathlib.Core.List.{List, [], _∷_}
 use lib.ListN.{length}
 use Rattle.transfer.specs.Phases.{Move, Go, Hand, Stop}
-use Rattle.transfer.specs.Moves.{isDecided, decisionOf}
-use Rattle.transfer.specs.Outcome.{onward, run}
-use Rattle.transfer.specs.Verdicts.{cutAt}
-use Rattle.transfer.specs.DecisionTicks.{DecisionTickLaw}
+use Rattle.transfer.specs.Moves.{Stage, Running, Ended, Fallen, stage, hasFallen, isDecided, decisionIn}
+use Rattle.transfer.specs.Outcome.{onward, run, outcome}
+use Rattle.transfer.specs.Decisions.{cutAt}
 use Rattle.transfer.specs.declared.limits.Limits.{Limits}
 use Rattle.transfer.specs.declared.lines.Lines.{Lines}
 use Rattle.transfer.specs.declared.phase.Phase.{Phase}
-use Rattle.transfer.specs.declared.phase.Phase.the-variants.{Start, FirstHold, Hold, ReadyToSend, ReadyForData}
-use Rattle.transfer.specs.declared.phase.Phase.the-variants.{Acknowledgement, Acknowledged, SetUp, Valid, Open, Carried}
-use Rattle.transfer.specs.declared.phase.Phase.the-variants.{End, Decided}
-use Rattle.transfer.specs.declared.verdict.Decision.{Decision}
-use Rattle.transfer.specs.declared.verdict.Verdict.{Verdict}
-use Rattle.transfer.specs.declared.verdict.Verdict.the-variants.{Complete, Cut, Broken}
-use Rattle.transfer.proofs.Rows.{Climbs, stops, goes, hands, climbs, finished, latest}
-use Rattle.transfer.proofs.Undecided.{undecided}
+use Rattle.transfer.specs.declared.phase.Phase.the-variants.{Start}
+use Rattle.transfer.specs.declared.decision.Decision.{Decision}
+use Rattle.answer.specs.declared.verdict.Verdict.{Verdict}
+use Rattle.answer.specs.declared.verdict.Verdict.the-variants.{Complete, Cut, Broken}
+use Rattle.transfer.proofs.Rows.{Climbs, stops, goes, hands, climbs, finishedIn, latestIn, finished, latest}
+use Rattle.transfer.proofs.Stages.{undecided}
 
-no-later : (p : Phase) (now : ℕ) → finished p ≤ now → latest p now ≤ suc now
-no-later Start now h = omega arith
-no-later FirstHold now h = omega arith
-no-later (Hold end-mark value take let-go) now h = omega arith
-no-later (ReadyToSend some-handed ended) now h = omega arith
-no-later (ReadyForData some-handed since) now h = omega arith
-no-later (Acknowledgement some-handed since ready-tick) now h = omega arith
-no-later (Acknowledged some-handed since ready-tick) now h = omega arith
-no-later (SetUp end-mark value last since bits-left) now h = omega arith
-no-later (Valid end-mark value bit since bits-left) now h = omega arith
-no-later (Open end-mark value since let-go) now h = omega arith
-no-later (Carried end-mark value since) now h = omega arith
-no-later (End finish) now h = omega arith
-no-later (Decided fault) now h = omega arith
+no-later : (g : Stage) (now : ℕ) → finishedIn g ≤ now → latestIn g now ≤ suc now
+no-later Running now h = omega arith
+no-later (Ended finish) now h = omega arith
+no-later (Fallen fault) now h = omega arith
 
 -- The decision in a state: cut at the next tick, or inside.
 record Placed (d : Decision) (n : ℕ) : Type 0 where
@@ -54,21 +41,11 @@ isCut (Broken fault) = false
 not-cut : (d : Decision) (n : ℕ) → isCut (d .verdict) ≡ false → d .tick < n → Placed d n
 not-cut d n e h = record { cut = λ v. absurd (true≢false (ap isCut (sym v) ∙ e)); inside = λ v. h }
 
-decision-in : (p : Phase) (tick n : ℕ) → (isDecided p ≡ false → tick ≡ n) → (isDecided p ≡ true → tick < n) → finished p ≤ n
-    → Placed (decisionOf p tick) n
-decision-in Start tick n u d f = cut-at tick n (u refl)
-decision-in FirstHold tick n u d f = cut-at tick n (u refl)
-decision-in (Hold end-mark value take let-go) tick n u d f = cut-at tick n (u refl)
-decision-in (ReadyToSend some-handed ended) tick n u d f = cut-at tick n (u refl)
-decision-in (ReadyForData some-handed since) tick n u d f = cut-at tick n (u refl)
-decision-in (Acknowledgement some-handed since ready-tick) tick n u d f = cut-at tick n (u refl)
-decision-in (Acknowledged some-handed since ready-tick) tick n u d f = cut-at tick n (u refl)
-decision-in (SetUp end-mark value last since bits-left) tick n u d f = cut-at tick n (u refl)
-decision-in (Valid end-mark value bit since bits-left) tick n u d f = cut-at tick n (u refl)
-decision-in (Open end-mark value since let-go) tick n u d f = cut-at tick n (u refl)
-decision-in (Carried end-mark value since) tick n u d f = cut-at tick n (u refl)
-decision-in (End finish) tick n u d f = not-cut _ n refl (omega arith)
-decision-in (Decided fault) tick n u d f = not-cut _ n refl (d refl)
+decision-in : (g : Stage) (tick n : ℕ) → (hasFallen g ≡ false → tick ≡ n) → (hasFallen g ≡ true → tick < n) → finishedIn g ≤ n
+    → Placed (decisionIn g tick) n
+decision-in Running tick n u d f = cut-at tick n (u refl)
+decision-in (Ended finish) tick n u d f = not-cut _ n refl (omega arith)
+decision-in (Fallen fault) tick n u d f = not-cut _ n refl (d refl)
 
 -- From a phase that is not decided, and whose finish tick has been read, if it is the end.
 module _ (L : Limits) where
@@ -80,7 +57,7 @@ module _ (L : Limits) where
     beyond : (q : Phase) → isDecided q ≡ false → finished q ≤ latest p now → Placed (run L (suc now) q w .decision) (now + suc (length w))
     beyond q u h =
         let z : now + suc (length w) ≡ suc now + length w = omega arith in
-        rw z (ih (suc now) q u (omega (arith, no-later p now f)))
+        rw z (ih (suc now) q u (omega (arith, no-later (stage p) now f)))
 
     moved : (x : Move) → Climbs now p l x
         → Placed (onward x now (λ (q : Phase). run L (suc now) q w) .decision) (now + suc (length w))
@@ -92,10 +69,15 @@ module _ (L : Limits) where
   unfolding run
   lies [] now p u f =
       let z : now + 0 ≡ now = omega arith in
-      rw z (decision-in p now now (λ e. refl) (λ e. absurd (true≢false (sym e ∙ u))) f)
+      rw z (decision-in (stage p) now now (λ e. refl) (λ e. absurd (true≢false (sym e ∙ u))) f)
   lies (l ∷ w) now p u f = moved w (lies w) l now p f _ (climbs L now p l)
 
-pub decision-tick : DecisionTickLaw
+-- "20: the finish tick; 22: total ticks", any other verdict the deciding tick: all but 22's are ticks that were read.
+pub record DecisionTick (L : Limits) (w : List Lines) : Type 0 where
+  pub cut : outcome L w .decision .verdict ≡ Cut → outcome L w .decision .tick ≡ length w
+  pub inside : (outcome L w .decision .verdict ≡ Cut → ⊥) → outcome L w .decision .tick < length w
+
+pub decision-tick : (L : Limits) (w : List Lines) → DecisionTick L w
 decision-tick L w =
     let z : 0 + length w ≡ length w = omega arith in
     let placed = rw z at (lies L w 0 Start refl (omega arith)) in

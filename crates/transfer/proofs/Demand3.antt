@@ -15,7 +15,7 @@ use Rattle.transfer.specs.Demand3.{StandardDemand3}
 use Rattle.transfer.specs.declared.limits.Limits.{Limits}
 use Rattle.transfer.specs.declared.lines.Lines.{Lines}
 use Rattle.transfer.specs.declared.phase.Byte.{Byte}
-use Rattle.transfer.specs.declared.verdict.Verdict.the-variants.{Complete}
+use Rattle.answer.specs.declared.verdict.Verdict.the-variants.{Complete}
 use Rattle.transfer.specs.declared.phase.Phase.the-variants.{Start}
 use Rattle.transfer.proofs.Rows.{lines}
 use Rattle.transfer.proofs.Forward.{shows, CompleteBy, along}

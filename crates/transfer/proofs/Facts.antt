@@ -7,7 +7,7 @@ use mathlib.Core.Path.{_≡_, refl, sym, subst}
 use mathlib.Core.Bool.{Bool, true, false}
 use mathlib.Core.List.{List, [], _∷_}
 use lib.ListN.{length}
-use Rattle.transfer.specs.Choice.{if_then_else_}
+use Rattle.answer.specs.Choice.{if_then_else_}
 use Rattle.transfer.specs.Limits.{standardLimits}
 use Rattle.transfer.specs.Offsets.{below, upTo}
 use Rattle.transfer.specs.Phases.{next, same, withBit, handover, afterBit}
@@ -19,42 +19,11 @@ use Rattle.transfer.specs.Pair.{values}
 use Rattle.transfer.specs.Demand3.{CompleteWith}
 use Rattle.transfer.specs.Spans.{ticks}
 use Rattle.transfer.specs.SampleSpans.{s1}
-use Rattle.transfer.specs.Facts.{OnlyCompleteIs20, AllBytes, SomeBytes, PairSendsBytes, S1Explained, oneTick, byte80}
+use Rattle.transfer.specs.Facts.{AllBytes, SomeBytes, PairSendsBytes, S1Explained, oneTick, byte80}
 use Rattle.transfer.specs.Facts.{TwoPairs}
-use Rattle.transfer.specs.Verdicts.{verdictNumber}
 use Rattle.transfer.specs.declared.limits.Limits.{Limits}
-use Rattle.transfer.specs.declared.verdict.Fault.{Fault}
-use Rattle.transfer.specs.declared.verdict.Fault.the-variants.{EmptyStream, Attention, NoReceiver, BadStart, OutOfTurn}
-use Rattle.transfer.specs.declared.verdict.Fault.the-variants.{EndMarkNotAcknowledged, AcknowledgementShort}
-use Rattle.transfer.specs.declared.verdict.Fault.the-variants.{AcknowledgementLong, LateClock, SenderTimeout}
-use Rattle.transfer.specs.declared.verdict.Fault.the-variants.{ValidTimeShort, DataMoved, ClockStall, ReceiverTimeout}
-use Rattle.transfer.specs.declared.verdict.Fault.the-variants.{Hurried, MovedAfterEnd}
-use Rattle.transfer.specs.declared.verdict.Verdict.the-variants.{Complete, Cut, Broken}
+use Rattle.answer.specs.declared.verdict.Verdict.the-variants.{Complete}
 use Rattle.transfer.proofs.Demand3.{standard-demand3}
-
--- Complete alone has the number 20.
-no-fault-is-20 : (f : Fault) → verdictNumber (Broken f) ≡ 20 → ⊥
-no-fault-is-20 EmptyStream e = omega arith
-no-fault-is-20 Attention e = omega arith
-no-fault-is-20 NoReceiver e = omega arith
-no-fault-is-20 BadStart e = omega arith
-no-fault-is-20 OutOfTurn e = omega arith
-no-fault-is-20 EndMarkNotAcknowledged e = omega arith
-no-fault-is-20 AcknowledgementShort e = omega arith
-no-fault-is-20 AcknowledgementLong e = omega arith
-no-fault-is-20 LateClock e = omega arith
-no-fault-is-20 SenderTimeout e = omega arith
-no-fault-is-20 ValidTimeShort e = omega arith
-no-fault-is-20 DataMoved e = omega arith
-no-fault-is-20 ClockStall e = omega arith
-no-fault-is-20 ReceiverTimeout e = omega arith
-no-fault-is-20 Hurried e = omega arith
-no-fault-is-20 MovedAfterEnd e = omega arith
-
-pub only-complete-is-20 : OnlyCompleteIs20
-only-complete-is-20 Complete e = refl
-only-complete-is-20 Cut e = absurd (omega arith)
-only-complete-is-20 (Broken f) e = absurd (no-fault-is-20 f e)
 
 -- A pair is for a string of one or more bytes, each below 256.
 sends-one : (now : ℕ) (s : Sending) → 1 ≤ length (values (sendingBytes now s))

@@ -6,10 +6,9 @@ use mathlib.Core.Bool.{Bool, true, false, _||_}
 use mathlib.Core.List.{List, [], _∷_, _++_, map, append-nil}
 use lib.ListN.{length, replicate}
 use borrow.Author.Tests.{lt-ltb, le-ltb, le-leb, lt-leb}
-use Rattle.transfer.specs.Choice.{if_then_else_}
+use Rattle.answer.specs.Choice.{if_then_else_}
 use Rattle.transfer.specs.Offsets.{below, upTo}
 use Rattle.transfer.specs.Phases.{Move, Go, Hand, next, same, withBit, handover, afterBit}
-use Rattle.transfer.specs.Moves.{move}
 use Rattle.transfer.specs.Outcome.{Outcome, ended, give, onward, run}
 use Rattle.transfer.specs.Parties.{Pulls, pulls, nobody, held, clock, clockHeld, sets, offers, Bit, Frame}
 use Rattle.transfer.specs.Parties.{Sending, more, last, Plan, bitsTrack, frameTrack, sendingTrack, track}
@@ -25,8 +24,9 @@ use Rattle.transfer.specs.declared.phase.Phase.{Phase}
 use Rattle.transfer.specs.declared.phase.Phase.the-variants.{Start, FirstHold, Hold, ReadyToSend, ReadyForData}
 use Rattle.transfer.specs.declared.phase.Phase.the-variants.{Acknowledgement, Acknowledged, SetUp, Valid, Open, Carried}
 use Rattle.transfer.specs.declared.phase.Phase.the-variants.{End}
-use Rattle.transfer.specs.declared.verdict.Verdict.the-variants.{Complete}
+use Rattle.answer.specs.declared.verdict.Verdict.the-variants.{Complete}
 use Rattle.transfer.proofs.Rows.{lines}
+use Rattle.transfer.proofs.Stages.{released-move}
 use Rattle.transfer.proofs.HandoverTicks.{isPositive, less, handoverTicks, frameTicks, frame-ticks}
 use Rattle.transfer.proofs.ByteValue.{takenIn, lastBit, eight-bits}
 
@@ -77,8 +77,8 @@ module _ (L : Limits) where
   -- One tick.
   one-tick : (now : ℕ) (p : Phase) (x : Move) (c d : Bool) (w : List Lines) → next L now p c d ≡ x
       → run L now p (lines c d ∷ w) ≡ onward x now (λ (q : Phase). run L (suc now) q w)
-  unfolding run move
-  one-tick now p x c d w e = ap (λ (y : Move). onward y now (λ (q : Phase). run L (suc now) q w)) e
+  unfolding run
+  one-tick now p x c d w e = ap (λ (y : Move). onward y now (λ (q : Phase). run L (suc now) q w)) (released-move L now p c d ∙ e)
 
   step : (now : ℕ) (p q : Phase) (c d : Bool) (w : List Lines) → next L now p c d ≡ Go q
       → run L now p (lines c d ∷ w) ≡ run L (suc now) q w

@@ -1,6 +1,6 @@
--- Why it holds. The crates above cite Rows, Undecided, DecisionTicks, Room, Demand3 and Facts, and the writer's read-back the proofs along a plan.
+-- Why it holds. The crates above cite Rows, Stages, DecisionTicks, Room, Demand3 and Facts, and the writer's read-back the proofs along a plan.
 pub mod Rows
-pub mod Undecided
+pub mod Stages
 pub mod DecisionTicks
 pub mod Room
 pub mod HandoverTicks

@@ -8,10 +8,10 @@ use mathlib.Core.Path.{_≡_, refl}
 use mathlib.Core.Bool.{Bool, true, false, not, _&&_}
 use lib.Dec.{eqb, ltb, leb}
 use borrow.Author.Tests.{ltb-false, leb-false}
-use Rattle.transfer.specs.Choice.{if_then_else_}
+use Rattle.answer.specs.Choice.{if_then_else_}
 use Rattle.transfer.specs.Offsets.{below, upTo}
 use Rattle.transfer.specs.Phases.{Move, Go, Hand, Stop, next, same, handover, afterBit}
-use Rattle.transfer.specs.Moves.{move, heldByte}
+use Rattle.transfer.specs.Moves.{Stage, Running, Ended, Fallen, stage, unlessFallen, move, heldByte}
 use Rattle.transfer.specs.declared.limits.Limits.{Limits}
 use Rattle.transfer.specs.declared.lines.Lines.{Lines}
 use Rattle.transfer.specs.declared.phase.Byte.{Byte}
@@ -19,8 +19,8 @@ use Rattle.transfer.specs.declared.phase.Phase.{Phase}
 use Rattle.transfer.specs.declared.phase.Phase.the-variants.{Start, FirstHold, Hold, ReadyToSend, ReadyForData}
 use Rattle.transfer.specs.declared.phase.Phase.the-variants.{Acknowledgement, Acknowledged, SetUp, Valid, Open, Carried}
 use Rattle.transfer.specs.declared.phase.Phase.the-variants.{End, Decided}
-use Rattle.transfer.specs.declared.verdict.Fault.{Fault}
-use Rattle.transfer.specs.declared.verdict.Fault.the-variants.{Attention}
+use Rattle.answer.specs.declared.verdict.Fault.{Fault}
+use Rattle.answer.specs.declared.verdict.Fault.the-variants.{Attention}
 
 -- How far the reading of a byte has come: 19 places make a byte.
 abbrev pub place : Phase → ℕ
@@ -74,35 +74,21 @@ further true = 0
 further false = 1
 
 -- The tick after the finish tick, for the end; and the latest that a row can lead to at tick `now`.
+abbrev pub finishedIn : Stage → ℕ
+finishedIn Running = 0
+finishedIn (Ended finish) = suc finish
+finishedIn (Fallen fault) = 0
+
+abbrev pub latestIn : Stage → (now : ℕ) → ℕ
+latestIn Running now = suc now
+latestIn (Ended finish) now = suc finish
+latestIn (Fallen fault) now = suc now
+
 abbrev pub finished : Phase → ℕ
-finished Start = 0
-finished FirstHold = 0
-finished (Hold end-mark value take let-go) = 0
-finished (ReadyToSend some-handed ended) = 0
-finished (ReadyForData some-handed since) = 0
-finished (Acknowledgement some-handed since ready-tick) = 0
-finished (Acknowledged some-handed since ready-tick) = 0
-finished (SetUp end-mark value last since bits-left) = 0
-finished (Valid end-mark value bit since bits-left) = 0
-finished (Open end-mark value since let-go) = 0
-finished (Carried end-mark value since) = 0
-finished (End finish) = suc finish
-finished (Decided fault) = 0
+finished p = finishedIn (stage p)
 
 abbrev pub latest : Phase → (now : ℕ) → ℕ
-latest Start now = suc now
-latest FirstHold now = suc now
-latest (Hold end-mark value take let-go) now = suc now
-latest (ReadyToSend some-handed ended) now = suc now
-latest (ReadyForData some-handed since) now = suc now
-latest (Acknowledgement some-handed since ready-tick) now = suc now
-latest (Acknowledged some-handed since ready-tick) now = suc now
-latest (SetUp end-mark value last since bits-left) now = suc now
-latest (Valid end-mark value bit since bits-left) now = suc now
-latest (Open end-mark value since let-go) now = suc now
-latest (Carried end-mark value since) now = suc now
-latest (End finish) now = suc finish
-latest (Decided fault) now = suc now
+latest p now = latestIn (stage p) now
 
 -- The highest place that a tick with these lines can lead to.
 abbrev pub most : Phase → Lines → ℕ
@@ -217,9 +203,12 @@ module _ (L : Limits) where
 
   pub climbs : (now : ℕ) (p : Phase) (l : Lines) → Climbs now p l (move L now p l)
   unfolding move
-  climbs now p l = by-atn (l .atn) (l .clk) (l .«data»)
+  climbs now p l = by-test (stage p) (l .atn) (l .clk) (l .«data»)
     where
-      by-atn : (a c d : Bool)
-          → Climbs now p (record { atn = a; clk = c; «data» = d }) (if a then Stop Attention else next L now p c d)
-      by-atn true c d = stops
-      by-atn false c d = climbs-row now p c d
+      by-test : (g : Stage) (a c d : Bool)
+          → Climbs now p (record { atn = a; clk = c; «data» = d }) (unlessFallen g (if a then Stop Attention else next L now p c d))
+      by-test Running true c d = stops
+      by-test Running false c d = climbs-row now p c d
+      by-test (Ended finish) true c d = stops
+      by-test (Ended finish) false c d = climbs-row now p c d
+      by-test (Fallen fault) a c d = stops

@@ -11,7 +11,7 @@ use Rattle.transfer.specs.Shown.{shown}
 use Rattle.transfer.specs.declared.limits.Limits.{Limits}
 use Rattle.transfer.specs.declared.lines.Lines.{Lines}
 use Rattle.transfer.specs.declared.phase.Byte.{Byte}
-use Rattle.transfer.specs.declared.verdict.Verdict.the-variants.{Complete}
+use Rattle.answer.specs.declared.verdict.Verdict.the-variants.{Complete}
 
 -- What the times have to keep among themselves.
 pub record Consistent (L : Limits) : Type 0 where

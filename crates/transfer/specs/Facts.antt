@@ -10,15 +10,8 @@ use Rattle.transfer.specs.Pair.{SenderPulls, Pair, senderTrack, receiver
 use Rattle.transfer.specs.Demand3.{Explains, Explained}
 use Rattle.transfer.specs.SampleSpans.{s1}
 use Rattle.transfer.specs.Spans.{ticks}
-use Rattle.transfer.specs.Verdicts.{verdictNumber}
 use Rattle.transfer.specs.declared.limits.Limits.{Limits}
 use Rattle.transfer.specs.declared.phase.Byte.{Byte}
-use Rattle.transfer.specs.declared.verdict.Verdict.{Verdict}
-use Rattle.transfer.specs.declared.verdict.Verdict.the-variants.{Complete}
-
--- Complete alone has the number 20.
-abbrev pub OnlyCompleteIs20 : Type 0
-OnlyCompleteIs20 = (v : Verdict) → verdictNumber v ≡ 20 → v ≡ Complete
 
 -- A pair is for one byte or more, each of them below 256.
 abbrev pub AllBytes : List ℕ → Type 0

@@ -1,13 +1,11 @@
 -- What one transfer is: the judge's table, the two parties' rules, and what holds of the two.
-pub mod Choice
 pub mod Lines
 pub mod Limits
 pub mod Offsets
 pub mod Phases
-pub mod Verdicts
+pub mod Decisions
 pub mod Moves
 pub mod Outcome
-pub mod DecisionTicks
 pub mod Spans
 pub mod SampleSpans
 pub mod Parties

@@ -1,9 +1,9 @@
 -- What a tick does, and what the recording comes to where it runs out.
 use Prim.Native.Nat.{ℕ, _+_}
 use mathlib.Core.Bool.{Bool, true, false}
-use Rattle.transfer.specs.Choice.{if_then_else_}
+use Rattle.answer.specs.Choice.{if_then_else_}
 use Rattle.transfer.specs.Phases.{Move, Stop, next}
-use Rattle.transfer.specs.Verdicts.{completeAt, cutAt, brokenAt}
+use Rattle.transfer.specs.Decisions.{completeAt, cutAt, brokenAt}
 use Rattle.transfer.specs.declared.limits.Limits.{Limits}
 use Rattle.transfer.specs.declared.lines.Lines.{Lines}
 use Rattle.transfer.specs.declared.phase.Byte.{Byte}
@@ -11,28 +11,51 @@ use Rattle.transfer.specs.declared.phase.Phase.{Phase}
 use Rattle.transfer.specs.declared.phase.Phase.the-variants.{Start, FirstHold, Hold, ReadyToSend, ReadyForData}
 use Rattle.transfer.specs.declared.phase.Phase.the-variants.{Acknowledgement, Acknowledged, SetUp, Valid, Open, Carried}
 use Rattle.transfer.specs.declared.phase.Phase.the-variants.{End, Decided}
-use Rattle.transfer.specs.declared.verdict.Decision.{Decision}
-use Rattle.transfer.specs.declared.verdict.Fault.the-variants.{Attention}
+use Rattle.transfer.specs.declared.decision.Decision.{Decision}
+use Rattle.answer.specs.declared.verdict.Fault.{Fault}
+use Rattle.answer.specs.declared.verdict.Fault.the-variants.{Attention}
+
+-- How far a transfer has come, for whatever asks only that: it is running, the stream is finished, or a verdict has fallen.
+pub data Stage : Type 0 where
+  Running : Stage
+  Ended : (finish : ℕ) → Stage
+  Fallen : Fault → Stage
+
+abbrev pub stage : Phase → Stage
+stage Start = Running
+stage FirstHold = Running
+stage (Hold end-mark value take let-go) = Running
+stage (ReadyToSend some-handed ended) = Running
+stage (ReadyForData some-handed since) = Running
+stage (Acknowledgement some-handed since ready-tick) = Running
+stage (Acknowledged some-handed since ready-tick) = Running
+stage (SetUp end-mark value last since bits-left) = Running
+stage (Valid end-mark value bit since bits-left) = Running
+stage (Open end-mark value since let-go) = Running
+stage (Carried end-mark value since) = Running
+stage (End finish) = Ended finish
+stage (Decided fault) = Fallen fault
+
+abbrev pub hasFallen : Stage → Bool
+hasFallen Running = false
+hasFallen (Ended finish) = false
+hasFallen (Fallen fault) = true
 
 -- A verdict has fallen.
 abbrev pub isDecided : Phase → Bool
-isDecided Start = false
-isDecided FirstHold = false
-isDecided (Hold end-mark value take let-go) = false
-isDecided (ReadyToSend some-handed ended) = false
-isDecided (ReadyForData some-handed since) = false
-isDecided (Acknowledgement some-handed since ready-tick) = false
-isDecided (Acknowledged some-handed since ready-tick) = false
-isDecided (SetUp end-mark value last since bits-left) = false
-isDecided (Valid end-mark value bit since bits-left) = false
-isDecided (Open end-mark value since let-go) = false
-isDecided (Carried end-mark value since) = false
-isDecided (End finish) = false
-isDecided (Decided fault) = true
+isDecided phase = hasFallen (stage phase)
 
--- What a tick does in a phase: "a tick with ATN pulled gives 23 before anything else"; then the phase's rows.
+-- "Stops for good at the deciding tick": a verdict stands, and otherwise the tick does what it does.
+abbrev pub unlessFallen : Stage → Move → Move
+unlessFallen Running does = does
+unlessFallen (Ended finish) does = does
+unlessFallen (Fallen fault) does = Stop fault
+
+-- What a tick does in a phase, whole: a verdict stands; "a tick with ATN pulled gives 23 before anything else"; then the phase's rows.
 unfoldable pub move : Limits → (now : ℕ) → Phase → Lines → Move
-move L now phase lines = if lines .atn then Stop Attention else next L now phase (lines .clk) (lines .«data»)
+move L now phase lines =
+    unlessFallen (stage phase)
+    (if lines .atn then Stop Attention else next L now phase (lines .clk) (lines .«data»))
 
 abbrev pub noByte : Byte
 noByte = record { value = 0; «let_go» = 0; take = 0 }
@@ -55,17 +78,10 @@ heldByte (Decided fault) = noByte
 
 -- "The recording running out gives 20 in E, 22 anywhere else." 20 carries the finish tick, 22 the total of ticks, any
 -- other verdict the tick that decided.
+abbrev pub decisionIn : Stage → (tick : ℕ) → Decision
+decisionIn Running tick = cutAt tick
+decisionIn (Ended finish) tick = completeAt finish
+decisionIn (Fallen fault) tick = brokenAt fault tick
+
 abbrev pub decisionOf : Phase → (tick : ℕ) → Decision
-decisionOf Start tick = cutAt tick
-decisionOf FirstHold tick = cutAt tick
-decisionOf (Hold end-mark value take let-go) tick = cutAt tick
-decisionOf (ReadyToSend some-handed ended) tick = cutAt tick
-decisionOf (ReadyForData some-handed since) tick = cutAt tick
-decisionOf (Acknowledgement some-handed since ready-tick) tick = cutAt tick
-decisionOf (Acknowledged some-handed since ready-tick) tick = cutAt tick
-decisionOf (SetUp end-mark value last since bits-left) tick = cutAt tick
-decisionOf (Valid end-mark value bit since bits-left) tick = cutAt tick
-decisionOf (Open end-mark value since let-go) tick = cutAt tick
-decisionOf (Carried end-mark value since) tick = cutAt tick
-decisionOf (End finish) tick = completeAt finish
-decisionOf (Decided fault) tick = brokenAt fault tick
+decisionOf phase tick = decisionIn (stage phase) tick

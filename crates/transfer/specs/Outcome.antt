@@ -4,14 +4,14 @@ use Prim.Native.Nat.{ℕ, suc}
 use mathlib.Core.List.{List, [], _∷_}
 use Rattle.transfer.specs.Phases.{Move, Go, Hand, Stop}
 use Rattle.transfer.specs.Moves.{move, decisionOf}
-use Rattle.transfer.specs.Verdicts.{brokenAt}
+use Rattle.transfer.specs.Decisions.{brokenAt}
 use Rattle.transfer.specs.declared.limits.Limits.{Limits}
 use Rattle.transfer.specs.declared.lines.Lines.{Lines}
 use Rattle.transfer.specs.declared.phase.Byte.{Byte}
 use Rattle.transfer.specs.declared.phase.Phase.{Phase}
 use Rattle.transfer.specs.declared.phase.Phase.the-variants.{Start}
-use Rattle.transfer.specs.declared.verdict.Decision.{Decision}
-use Rattle.transfer.specs.declared.verdict.Fault.{Fault}
+use Rattle.transfer.specs.declared.decision.Decision.{Decision}
+use Rattle.answer.specs.declared.verdict.Fault.{Fault}
 
 -- A verdict with its deciding tick, and the ledger: each byte handed over with its two ticks.
 pub record Outcome : Type 0 where

@@ -5,7 +5,7 @@ use mathlib.Core.Bool.{Bool, true, false}
 use mathlib.Core.List.{List, [], _∷_, _++_, map}
 use lib.Dec.{ltb, leb}
 use lib.ListN.{length, replicate}
-use Rattle.transfer.specs.Choice.{if_then_else_}
+use Rattle.answer.specs.Choice.{if_then_else_}
 use Rattle.transfer.specs.declared.phase.Byte.{Byte}
 
 -- One tick of both tracks: the sender's CLK and DATA pulls, the receiver's DATA pull.

@@ -4,7 +4,7 @@
 use Prim.Native.Nat.{ℕ, zero, suc, _+_, _/_}
 use mathlib.Core.Bool.{Bool, true, false, not}
 use lib.Dec.{eqb}
-use Rattle.transfer.specs.Choice.{if_then_else_}
+use Rattle.answer.specs.Choice.{if_then_else_}
 use Rattle.transfer.specs.Offsets.{below, upTo}
 use Rattle.transfer.specs.declared.limits.Limits.{Limits}
 use Rattle.transfer.specs.declared.phase.Byte.{Byte}
@@ -12,12 +12,12 @@ use Rattle.transfer.specs.declared.phase.Phase.{Phase}
 use Rattle.transfer.specs.declared.phase.Phase.the-variants.{Start, FirstHold, Hold, ReadyToSend, ReadyForData}
 use Rattle.transfer.specs.declared.phase.Phase.the-variants.{Acknowledgement, Acknowledged, SetUp, Valid, Open, Carried}
 use Rattle.transfer.specs.declared.phase.Phase.the-variants.{End, Decided}
-use Rattle.transfer.specs.declared.verdict.Fault.{Fault}
-use Rattle.transfer.specs.declared.verdict.Fault.the-variants.{EmptyStream, NoReceiver, BadStart, OutOfTurn}
-use Rattle.transfer.specs.declared.verdict.Fault.the-variants.{EndMarkNotAcknowledged, AcknowledgementShort}
-use Rattle.transfer.specs.declared.verdict.Fault.the-variants.{AcknowledgementLong, LateClock, SenderTimeout}
-use Rattle.transfer.specs.declared.verdict.Fault.the-variants.{ValidTimeShort, DataMoved, ClockStall, ReceiverTimeout}
-use Rattle.transfer.specs.declared.verdict.Fault.the-variants.{Hurried, MovedAfterEnd}
+use Rattle.answer.specs.declared.verdict.Fault.{Fault}
+use Rattle.answer.specs.declared.verdict.Fault.the-variants.{EmptyStream, NoReceiver, BadStart, OutOfTurn}
+use Rattle.answer.specs.declared.verdict.Fault.the-variants.{EndMarkNotAcknowledged, AcknowledgementShort}
+use Rattle.answer.specs.declared.verdict.Fault.the-variants.{AcknowledgementLong, LateClock, SenderTimeout}
+use Rattle.answer.specs.declared.verdict.Fault.the-variants.{ValidTimeShort, DataMoved, ClockStall, ReceiverTimeout}
+use Rattle.answer.specs.declared.verdict.Fault.the-variants.{Hurried, MovedAfterEnd}
 
 -- What one tick does: go to a phase or stay in it, hand a byte over and go to a phase, or decide.
 pub data Move : Type 0 where
@@ -139,5 +139,5 @@ next L now (Carried end-mark value since) false true =
 next L now (End finish) false false = Go (End finish)
 next L now (End finish) false true = Stop MovedAfterEnd
 next L now (End finish) true d = Stop MovedAfterEnd
--- A verdict stands. `nextState` sees to it before this table is asked.
+-- A verdict stands. `move` sees to it before this table is asked.
 next L now (Decided fault) c d = Stop fault

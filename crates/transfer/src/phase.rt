@@ -1,5 +1,5 @@
 // The phases of document 01, each with just the numbers that its rows read or hand on.
-use crate::verdict::Fault;
+use answer::Fault;
 
 // A byte with its two ledger ticks: the sender lets go of DATA, the receiver takes it.
 pub struct Byte {

@@ -7,10 +7,9 @@ use lib.ListN.{length, drop, length-take, length-drop}
 use Rattle.answer.specs.Answers.{refused, accepted}
 use Rattle.answer.specs.declared.Answer.{Answer}
 use Rattle.recording.specs.Form.{formOf}
-use Rattle.recording.specs.Refusals.{refusalNumber}
 use Rattle.recording.specs.Ticks.{stepsOf}
 use Rattle.recording.specs.declared.form.Form.the-variants.{Good, Refused}
-use Rattle.recording.specs.declared.refusal.Refusal.{Refusal}
+use Rattle.answer.specs.declared.refusal.Refusal.{Refusal}
 use Rattle.recording.proofs.GoodFormLaws.{good-form}
 use Rattle.recording.proofs.StepLaws.{steps-count}
 use Rattle.vcd.specs.Dump.{dump}
@@ -22,7 +21,7 @@ use Rattle.vcd.proofs.WindowLaws.{through}
 
 module _ (file : List ℕ) (offset : ℕ) (d : List ℕ) where
   pub is-refused : (refusal : Refusal) (step : ℕ) → formOf file ≡ Refused refusal step
-      → dumped file offset d ≡ leaves (refused (refusalNumber refusal) step) d
+      → dumped file offset d ≡ leaves (refused refusal step) d
   unfolding dumped dumpedInForm
   is-refused refusal step e = ap (λ form. dumpedInForm file form offset d) e
 

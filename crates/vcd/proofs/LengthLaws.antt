@@ -5,7 +5,7 @@ use mathlib.Core.List.{List, [], _∷_}
 use native.Mathlib.Omega.{arith}
 use lib.Dec.{ltb, eqb}
 use lib.ListN.{length, length-append}
-use Rattle.recording.specs.Choice.{if_then_else_}
+use Rattle.answer.specs.Choice.{if_then_else_}
 use Rattle.recording.specs.Ticks.{totalTicks}
 use Rattle.recording.specs.declared.step.Step.{Step}
 use Rattle.vcd.specs.Text.{decimalIn}

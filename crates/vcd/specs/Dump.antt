@@ -3,7 +3,7 @@ use Prim.Native.Char.{code}
 use Prim.Native.Nat.{ℕ, _+_}
 use mathlib.Core.List.{List, [], _∷_, _++_}
 use lib.Dec.{eqb}
-use Rattle.recording.specs.Choice.{if_then_else_}
+use Rattle.answer.specs.Choice.{if_then_else_}
 use Rattle.recording.specs.Ticks.{totalTicks}
 use Rattle.recording.specs.declared.step.Step.{Step}
 use Rattle.vcd.specs.Text.{newline, inLines, decimal}

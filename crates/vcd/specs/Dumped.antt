@@ -6,7 +6,6 @@ use Rattle.answer.specs.Answers.{refused, accepted}
 use Rattle.answer.specs.Lent.{_over_, first}
 use Rattle.answer.specs.declared.Answer.{Answer}
 use Rattle.recording.specs.Form.{formOf}
-use Rattle.recording.specs.Refusals.{refusalNumber}
 use Rattle.recording.specs.Ticks.{stepsOf}
 use Rattle.recording.specs.declared.form.Form.{Form}
 use Rattle.recording.specs.declared.form.Form.the-variants.{Good, Refused}
@@ -30,7 +29,7 @@ leavesPiece piece destination = leaves (accepted (length piece)) (piece over des
 
 -- A recording whose form was tested. At a refusal the destination does not change.
 unfoldable pub dumpedInForm : (file : List ℕ) → Form → (offset : ℕ) (destination : List ℕ) → Dumped
-dumpedInForm file (Refused refusal step) offset destination = leaves (refused (refusalNumber refusal) step) destination
+dumpedInForm file (Refused refusal step) offset destination = leaves (refused refusal step) destination
 dumpedInForm file (Good n) offset destination =
     leavesPiece (piece (dump (stepsOf file)) offset (length destination)) destination
 

@@ -19,7 +19,7 @@ pub fn part(file: &[u8], offset: u32, destination: &mut [u8]) -> Answer
 {
     let form = recording::check_form(file);
     match form {
-        Form::Refused { refusal, step } => Answer::refused(refusal.number(), step),
+        Form::Refused { refusal, step } => Answer::refused(refusal, step),
         Form::Good { steps } => {
             let window = put_dump(file, steps, destination, Window::at(offset));
             Answer::accepted(window.count as u32)

@@ -8,7 +8,7 @@
 mod pieces;
 
 use crate::pieces::print_dump;
-use bench::read_source;
+use files::read_source;
 
 // As in judge_file, the room is longer than any recording: a longer file is refused by its beginning as it is by the whole of it
 // (crates/recording/specs/LongFiles.antt).

@@ -1,6 +1,6 @@
 // The dump, piece after piece.
 use answer::Answer;
-use bench::print_answer;
+use files::print_answer;
 use libc::STDERR_FILENO;
 use libc::STDOUT_FILENO;
 

@@ -8,14 +8,15 @@ use lib.Dec.{ltb}
 use lib.ListN.{length}
 use borrow.Author.Tests.{ltb-false}
 use Rattle.answer.specs.declared.Answer.{Answer}
+use Rattle.answer.specs.declared.refusal.Refusal.the-variants.{TooManyBytes, ShortDestination}
 use Rattle.answer.specs.Answers.{refused, accepted}
-use Rattle.recording.specs.Choice.{if_then_else_}
+use Rattle.answer.specs.Choice.{if_then_else_}
 use Rattle.writer.specs.Written.{mostBytes, writtenLength, recordingOf, Written, leaves, written}
 use Rattle.answer.specs.Lent.{_over_}
 use Rattle.writer.specs.Card.{standardCard}
 
 chosen : (many short : Bool) (length room : ℕ) (d e : List ℕ) → short ≡ ltb room length
-    → (if many then leaves (refused 10 0) d else if short then leaves (refused 11 0) d else leaves (accepted length) e)
+    → (if many then leaves (refused TooManyBytes 0) d else if short then leaves (refused ShortDestination 0) d else leaves (accepted length) e)
     .answer .count ≤ room
 chosen true short l room d e t = omega arith
 chosen false true l room d e t = omega arith

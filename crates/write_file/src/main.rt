@@ -8,10 +8,10 @@
 mod saving;
 
 use crate::saving::save;
-use bench::hide_controls;
-use bench::print_answer;
-use bench::print_failure;
-use bench::read_input;
+use files::hide_controls;
+use files::print_answer;
+use files::print_failure;
+use files::read_input;
 use libc::STDIN_FILENO;
 use libc::STDOUT_FILENO;
 

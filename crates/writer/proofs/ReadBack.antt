@@ -13,7 +13,7 @@ use Rattle.recording.proofs.FileOfLaws.{file-of, file-length}
 use Rattle.recording.proofs.GoodFormLaws.{good-form}
 use Rattle.transfer.specs.Limits.{standardLimits}
 use Rattle.transfer.specs.Outcome.{Outcome, outcome}
-use Rattle.transfer.specs.Verdicts.{verdictNumber}
+use Rattle.answer.specs.Numbers.{verdictNumber}
 use Rattle.judge.specs.Judged.{tickLines, verdictLeaves}
 use Rattle.judge.proofs.JudgedLaws.{is-verdict}
 use Rattle.judge.proofs.LedgerLists.{length-values}

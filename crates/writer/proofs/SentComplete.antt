@@ -14,10 +14,10 @@ use Rattle.transfer.specs.Outcome.{run, outcome}
 use Rattle.transfer.specs.Parties.{planBytes}
 use Rattle.transfer.specs.Pair.{senderTrack, receiverTrack}
 use Rattle.transfer.specs.Demand3.{CompleteWith, Explained}
-use Rattle.transfer.specs.Verdicts.{brokenAt}
+use Rattle.transfer.specs.Decisions.{brokenAt}
 use Rattle.transfer.specs.declared.limits.Limits.{Limits}
 use Rattle.transfer.specs.declared.lines.Lines.{Lines}
-use Rattle.transfer.specs.declared.verdict.Fault.the-variants.{EmptyStream}
+use Rattle.answer.specs.declared.verdict.Fault.the-variants.{EmptyStream}
 use Rattle.transfer.proofs.Demand3.{standard-demand3}
 use Rattle.judge.specs.Judged.{tickLines}
 use Rattle.writer.specs.Card.{standardCard}

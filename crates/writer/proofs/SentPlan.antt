@@ -10,7 +10,7 @@ use lib.Dec.{eqb}
 use lib.ListN.{replicate}
 use borrow.Author.Tests.{eqb-true, eqb-false}
 use Rattle.recording.specs.GoodForm.{Bytes}
-use Rattle.transfer.specs.Choice.{if_then_else_}
+use Rattle.answer.specs.Choice.{if_then_else_}
 use Rattle.transfer.specs.Parties.{Bit, Frame, Sending, more, last, Plan, valueOf, sendingBytes}
 use Rattle.transfer.specs.Pair.{values}
 use Rattle.writer.specs.declared.card.Card.{Card}

@@ -8,7 +8,7 @@ use lib.Dec.{eqb}
 use lib.ListN.{replicate}
 use Rattle.recording.specs.Ticks.{ticks}
 use Rattle.recording.specs.declared.step.Step.{Step}
-use Rattle.transfer.specs.Choice.{if_then_else_}
+use Rattle.answer.specs.Choice.{if_then_else_}
 use Rattle.transfer.specs.Lines.{linesOf}
 use Rattle.transfer.specs.Parties.{Pulls, pulls, nobody, held, clock, clockHeld, sets, offers, bitsTrack, frameTrack, track}
 use Rattle.transfer.specs.Pair.{senderPulls, receiverPulls, gives}

@@ -9,6 +9,8 @@ use lib.ListN.{length}
 use lib.Seq.{sets, sets-eq, take-append-seam}
 use Rattle.answer.specs.Answers.{refused, accepted}
 use Rattle.answer.specs.Lent.{_over_, first}
+use Rattle.answer.specs.declared.refusal.Refusal.{Refusal}
+use Rattle.answer.specs.declared.refusal.Refusal.the-variants.{TooManyBytes, ShortDestination}
 use Rattle.recording.specs.GoodForm.{Bytes}
 use Rattle.recording.specs.Layout.{fileLength}
 use Rattle.recording.specs.Ticks.{totalTicks}
@@ -22,6 +24,7 @@ use Rattle.writer.specs.Card.{standardCard}
 use Rattle.writer.specs.WrittenSteps.{writtenSteps}
 use Rattle.writer.specs.Written.{mostBytes, writtenStepCount, writtenLength, recordingOf, Written, leaves, written}
 use Rattle.writer.specs.ReadBack.{ReadsBack, Writable}
+use Rattle.writer.specs.Promise.{WritePromise}
 use Rattle.writer.specs.WrittenTicks.{writtenTicks}
 use Rattle.writer.specs.Put.{withSteps}
 use Rattle.writer.specs.declared.card.Card.{Card}
@@ -54,12 +57,12 @@ module _ (card : Card) (bytes : List ℕ) (d : List ℕ) where
       let h-good : h ≡ goodHeader (length all) (totalTicks all) = h-is ∙ rw (s, t) in
       file-put d d₁ d₂ all (omega arith) (header ∙ rw h-good) put
 
-  pub too-many : mostBytes < length bytes → written card bytes d ≡ leaves (refused 10 0) d
+  pub too-many : mostBytes < length bytes → written card bytes d ≡ leaves (refused TooManyBytes 0) d
   unfolding written
   too-many many = rw (lt-ltb mostBytes (length bytes) many)
 
   module _ (few : length bytes ≤ mostBytes) where
-    pub no-room : length d < writtenLength (length bytes) → written card bytes d ≡ leaves (refused 11 0) d
+    pub no-room : length d < writtenLength (length bytes) → written card bytes d ≡ leaves (refused ShortDestination 0) d
     unfolding written
     no-room short = rw (le-ltb mostBytes (length bytes) few, lt-ltb (length d) (writtenLength (length bytes)) short)
 
@@ -68,25 +71,24 @@ module _ (card : Card) (bytes : List ℕ) (d : List ℕ) where
     unfolding written
     all-well room = rw (le-ltb mostBytes (length bytes) few, le-ltb (length d) (writtenLength (length bytes)) room)
 
--- Both clauses of the writer's promise: at a refusal, and where the recording was put down.
+-- The writer's promise: at a refusal, and where the recording was put down.
 module _ (bytes d : List ℕ) where
-  abbrev Promise : Written → Type 0
-  Promise w =
-      (w ≡ written standardCard bytes d)
-      × (Writable bytes d → ReadsBack standardLimits (first (w .answer .count) (w .destination)) bytes)
+  abbrev Promised : Written → Type 0
+  Promised = WritePromise standardLimits standardCard bytes d
 
-  pub refuses : (w : Written) (number : ℕ) → (Writable bytes d → ⊥) → w ≡ leaves (refused number 0) d
-      → written standardCard bytes d ≡ leaves (refused number 0) d → Promise w
-  refuses w number due e is = (e ∙ sym is, λ writable. absurd (due writable))
+  pub refuses : (w : Written) (refusal : Refusal) → (Writable bytes d → ⊥) → w ≡ leaves (refused refusal 0) d
+      → written standardCard bytes d ≡ leaves (refused refusal 0) d → Promised w
+  refuses w refusal due e is = record { given = e ∙ sym is; reads-back = λ writable. absurd (due writable) }
 
   pub puts-down : (w : Written) → Bytes bytes → length bytes ≤ mostBytes
       → w ≡ leaves (accepted (writtenLength (length bytes))) (recordingOf standardCard bytes over d)
-      → written standardCard bytes d ≡ leaves (accepted (writtenLength (length bytes))) (recordingOf standardCard bytes over d) → Promise w
+      → written standardCard bytes d ≡ leaves (accepted (writtenLength (length bytes))) (recordingOf standardCard bytes over d) → Promised w
   puts-down w is few e all =
       let recording = recordingOf standardCard bytes in
       let begins : first (writtenLength (length bytes)) (recording over d) ≡ recording =
-      ap (λ (n : ℕ). first n (recording over d)) (sym (counted standardCard bytes .bytes)) ∙ take-append-seam recording _ in (
-        e ∙ sym all,
-        λ writable. subst⁻¹ (λ (v : Written). ReadsBack standardLimits (first (v .answer .count) (v .destination)) bytes) e
-            (subst⁻¹ (λ (file : List ℕ). ReadsBack standardLimits file bytes) begins (read-back bytes is few)),
-      )
+      ap (λ (n : ℕ). first n (recording over d)) (sym (counted standardCard bytes .bytes)) ∙ take-append-seam recording _ in
+      record {
+        given = e ∙ sym all;
+        reads-back = λ writable. subst⁻¹ (λ (v : Written). ReadsBack standardLimits (first (v .answer .count) (v .destination)) bytes) e
+            (subst⁻¹ (λ (file : List ℕ). ReadsBack standardLimits file bytes) begins (read-back bytes is few));
+      }

@@ -3,6 +3,7 @@ pub mod Card
 pub mod WrittenSteps
 pub mod Written
 pub mod ReadBack
+pub mod Promise
 pub mod Samples
 pub mod Put
 pub mod WrittenTicks

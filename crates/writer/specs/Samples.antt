@@ -5,7 +5,7 @@ use mathlib.Core.Path.{_≡_}
 use lib.ListN.{replicate}
 use Rattle.recording.specs.FileOf.{fileOf}
 use Rattle.recording.specs.declared.step.Step.{Step}
-use Rattle.judge.specs.Samples.{_∶_, zeros, s1File}
+use Rattle.recording.specs.SampleSteps.{_∶_, zeros, s1File}
 use Rattle.writer.specs.Card.{standardCard}
 use Rattle.writer.specs.Written.{recordingOf, Written, leaves, written}
 

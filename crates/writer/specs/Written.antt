@@ -7,7 +7,8 @@ use lib.ListN.{length}
 use Rattle.answer.specs.Answers.{refused, accepted}
 use Rattle.answer.specs.Lent.{_over_}
 use Rattle.answer.specs.declared.Answer.{Answer}
-use Rattle.recording.specs.Choice.{if_then_else_}
+use Rattle.answer.specs.declared.refusal.Refusal.the-variants.{TooManyBytes, ShortDestination}
+use Rattle.answer.specs.Choice.{if_then_else_}
 use Rattle.recording.specs.FileOf.{fileOf}
 use Rattle.writer.specs.WrittenSteps.{writtenSteps}
 use Rattle.writer.specs.declared.card.Card.{Card}
@@ -47,7 +48,7 @@ leaves answer destination = record { answer = answer; destination = destination 
 unfoldable pub written : Card → (bytes destination : List ℕ) → Written
 written card bytes destination =
     -- 10: "more than 799 bytes"
-    if ltb mostBytes (length bytes) then leaves (refused 10 0) destination else
+    if ltb mostBytes (length bytes) then leaves (refused TooManyBytes 0) destination else
     -- 11: "destination under 80n+36 bytes, n the number of bytes given"
-    if ltb (length destination) (writtenLength (length bytes)) then leaves (refused 11 0) destination else
+    if ltb (length destination) (writtenLength (length bytes)) then leaves (refused ShortDestination 0) destination else
     leaves (accepted (writtenLength (length bytes))) (recordingOf card bytes over destination)

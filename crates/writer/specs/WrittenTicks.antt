@@ -4,7 +4,7 @@ use mathlib.Core.List.{List}
 use mathlib.Core.Path.{_≡_}
 use lib.Dec.{eqb}
 use lib.ListN.{length}
-use Rattle.recording.specs.Choice.{if_then_else_}
+use Rattle.answer.specs.Choice.{if_then_else_}
 use Rattle.recording.specs.Ticks.{totalTicks}
 use Rattle.writer.specs.WrittenSteps.{writtenSteps}
 use Rattle.writer.specs.declared.card.Card.{Card}

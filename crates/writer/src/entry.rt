@@ -2,40 +2,34 @@
 ghost use mathlib.Core.Path.{_≡_};
 ghost use Prim.Native.Nat.{_≤_};
 ghost use lib.ListN.{length};
-ghost use Rattle.answer.specs.Lent.{_over_, first};
+ghost use Rattle.answer.specs.Lent.{_over_};
 ghost use Rattle.transfer.specs.Limits.{standardLimits};
 ghost use Rattle.writer.specs.Card.{standardCard};
-ghost use Rattle.writer.specs.ReadBack.{ReadsBack, Writable};
-ghost use Rattle.writer.specs.Written.{mostBytes, writtenLength, recordingOf, leaves, written};
+ghost use Rattle.writer.specs.Promise.{WritePromise};
+ghost use Rattle.writer.specs.Written.{mostBytes, writtenLength, recordingOf, leaves};
 use crate::card::Card;
 use crate::string;
 use crate::ticks;
 use answer::Answer;
+use answer::Refusal;
 use recording::Header;
 use recording::Step;
 
-// Refusal 10: more than 799 bytes.
-const TOO_MANY_BYTES: u8 = 10;
-
+// More bytes than this are refusal 10.
 const MOST_BYTES: usize = 799;
-
-// Refusal 11: a destination under 80n+36 bytes.
-const SHORT_DESTINATION: u8 = 11;
 
 // Writes the sample recording of the bytes. Promised, first: the answer and the destination, whole, are what `written` gives. Second,
 // demand 2: where no refusal is due, what was put down is read back by the judge, with room enough, as these very bytes.
 pub fn write(bytes: &[u8], destination: &mut [u8]) -> Answer
-    ensures { λ r. ⌜
-        (leaves r (now (destination .exit)) ≡ written standardCard (now (bytes .entry)) (now (destination .entry)))
-        × (Writable (now (bytes .entry)) (now (destination .entry))
-        → ReadsBack standardLimits (first (r .count) (now (destination .exit))) (now (bytes .entry))) ⌝ }
+    ensures { λ r. ⌜ WritePromise standardLimits standardCard (now (bytes .entry)) (now (destination .entry))
+        (leaves r (now (destination .exit))) ⌝ }
 {
     if bytes.len() > MOST_BYTES {
-        return Answer::refused(TOO_MANY_BYTES, 0);
+        return Answer::refused(Refusal::TooManyBytes, 0);
     }
     let length = written_length(bytes.len());
     if destination.len() < length {
-        return Answer::refused(SHORT_DESTINATION, 0);
+        return Answer::refused(Refusal::ShortDestination, 0);
     }
     put_recording(bytes, destination, Card::standard());
     Answer::accepted(length as u32)

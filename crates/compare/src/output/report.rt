@@ -7,7 +7,7 @@ use crate::output::print::print_line;
 use crate::output::print::print_next;
 use crate::output::print::print_number;
 use crate::output::show::show_class;
-use bench::print_name;
+use files::print_name;
 use libc::STDOUT_FILENO;
 
 // How many recordings each class has, how many were damaged, how many had each number, and the sums.

@@ -4,15 +4,6 @@ use Rattle.judge.proofs.ReadVerdicts.{state-answer}
 use Rattle.judge.proofs.answers.state_answer.Statement.{statement}
 use Rattle.judge.proofs.answers.state_answer.Tie as tie
 
-decision-requires : tie.Need-decision-requires
-decision-requires c κs = search needs
-
-step-holding-requires : tie.Need-step-holding-requires
-step-holding-requires c κs = search needs
-
-number-requires : tie.Need-number-requires
-number-requires c κs = search needs
-
 returns : tie.Need-returns
 returns c =
     let holding = c .before in
@@ -23,4 +14,4 @@ returns c =
     (c .number .ensures)
 
 pub state-answer-spec : {M : Type 1} → statement M
-state-answer-spec = tie.close (tie.spec decision-requires step-holding-requires number-requires returns)
+state-answer-spec = tie.close (tie.spec (λ c κs. search needs) (λ c κs. search needs) (λ c κs. search needs) returns)

@@ -3,31 +3,12 @@ use mathlib.Core.Path.{sym, ap, _∙_}
 use native.Mathlib.Omega.{arith}
 use borrow.Author.Needs.{needs}
 use Rattle.recording.proofs.GoodFormLaws.{good-form}
-use Rattle.answer.specs.Answers.{refused}
 use Rattle.judge.specs.Judged.{leaves}
 use Rattle.judge.proofs.JudgedLaws.{is-refused, few-places, few-ledger-places}
 use Rattle.judge.proofs.ReadVerdicts.{is-read}
 use Rattle.judge.proofs.Demand3.{promised}
 use Rattle.judge.proofs.entry.judge.Statement.{statement}
 use Rattle.judge.proofs.entry.judge.Tie as tie
-
-check-form-requires : tie.Need-check-form-requires
-check-form-requires c κs = search needs
-
-enum-known-form : tie.Need-enum-known-form
-enum-known-form c = search needs
-
-number-requires : tie.Need-number-requires
-number-requires c κs = search needs
-
-refused-requires : tie.Need-refused-requires
-refused-requires c κs = search needs
-
-enum-known-form-2 : tie.Need-enum-known-form-2
-enum-known-form-2 c = search needs
-
-refused-requires-2 : tie.Need-refused-requires-2
-refused-requires-2 c κs = search needs
 
 returns : tie.Need-returns
 returns c =
@@ -37,9 +18,6 @@ returns c =
     promised _ _ _ _ (ap (λ r. leaves r (call .args .bytes .now) (call .args .ledger .now)) (c .refused2 .ensures)
     ∙ sym (few-places _ _ _ _ _ good (c .before .if1 .taken)))
 
-refused-requires-3 : tie.Need-refused-requires-3
-refused-requires-3 c κs = search needs
-
 returns-2 : tie.Need-returns-2
 returns-2 c =
     let known = c .before .before .before .before in
@@ -47,9 +25,6 @@ returns-2 c =
     let good = sym (known .before .before .check-form .ensures) ∙ known .form2 .given .1 in
     promised _ _ _ _ (ap (λ r. leaves r (call .args .bytes .now) (call .args .ledger .now)) (c .refused3 .ensures)
     ∙ sym (few-ledger-places _ _ _ _ _ good (c .before .before .if1 .left) (c .before .if2 .taken)))
-
-standard-requires : tie.Need-standard-requires
-standard-requires c κs = search needs
 
 read-requires : tie.Need-read-requires
 read-requires c κs =
@@ -70,19 +45,11 @@ state-answer-requires c κs =
 
 returns-3 : tie.Need-returns-3
 returns-3 c =
-    let number = c .before in
-    let known = number .before .before in
+    let known = c .before .before in
     let call = known .before .before .before .before .before .before in
     let bad = sym (known .before .before .check-form .ensures) ∙ known .form .given .1 in
-    promised _ _ _ _ (ap (λ r. leaves r (call .args .bytes .now) (call .args .ledger .now)) (c .refused .ensures
-    ∙ ap (λ n. refused n (known .form .given .0 .1 .0)) (number .number .ensures))
+    promised _ _ _ _ (ap (λ r. leaves r (call .args .bytes .now) (call .args .ledger .now)) (c .refused .ensures)
     ∙ sym (is-refused _ _ _ _ _ _ bad))
-
-same-length : tie.Need-same-length
-same-length c = search needs
-
-same-length-2 : tie.Need-same-length-2
-same-length-2 c = search needs
 
 returns-4 : tie.Need-returns-4
 returns-4 c =
@@ -97,20 +64,6 @@ returns-4 c =
 pub judge-spec : {M : Type 1} → statement M
 judge-spec =
     tie.close
-    (tie.spec
-    check-form-requires
-    enum-known-form
-    number-requires
-    refused-requires
-    enum-known-form-2
-    refused-requires-2
-    returns
-    refused-requires-3
-    returns-2
-    standard-requires
-    read-requires
-    state-answer-requires
-    returns-3
-    same-length
-    same-length-2
-    returns-4)
+    (tie.spec (λ c κs. search needs) (λ c. search needs) (λ c κs. search needs) (λ c. search needs)
+    (λ c κs. search needs) returns (λ c κs. search needs) returns-2 (λ c κs. search needs) read-requires
+    state-answer-requires returns-3 (λ c. search needs) (λ c. search needs) returns-4)

@@ -10,12 +10,9 @@ byte-requires c κs = c .before .before .before .before .before .pre .take (c .i
 returns : tie.Need-returns
 returns c = (search (tests, ← c .before .byte .ensures), search (tests, ← c .before .byte .ensures))
 
-returns-2 : tie.Need-returns-2
-returns-2 c = (search tests, search tests)
-
 pub store-spec : {M : Type 1} → statement M
 store-spec =
     tie.close
     (tie.spec byte-requires (λ c. search needs) (λ c. search needs) (λ c. search needs) (λ c. search needs)
     (λ c. search needs) (λ c. search needs) (λ c. search needs) (λ c. search needs) (λ c. search needs)
-    (λ c. search needs) (λ c. search needs) returns returns-2)
+    (λ c. search needs) (λ c. search needs) returns (λ c. (search tests, search tests)))

@@ -7,24 +7,6 @@ use borrow.Author.Needs.{needs}
 use Rattle.recording.proofs.fields.put_u16.Statement.{statement}
 use Rattle.recording.proofs.fields.put_u16.Tie as tie
 
-cast-destination : tie.Need-cast-destination
-cast-destination c = search needs
-
-slice-write-destination : tie.Need-slice-write-destination
-slice-write-destination c = search needs
-
-cast-destination-2 : tie.Need-cast-destination-2
-cast-destination-2 c = search needs
-
-add-destination : tie.Need-add-destination
-add-destination c = search needs
-
-slice-write-destination-2 : tie.Need-slice-write-destination-2
-slice-write-destination-2 c = simp length-set (omega arith)
-
-same-length : tie.Need-same-length
-same-length c = search needs
-
 returns : tie.Need-returns
 returns c =
     let a = c .args in
@@ -33,11 +15,5 @@ returns c =
 pub put-u16-spec : {M : Type 1} → statement M
 put-u16-spec =
     tie.close
-    (tie.spec
-    cast-destination
-    slice-write-destination
-    cast-destination-2
-    add-destination
-    slice-write-destination-2
-    same-length
-    returns)
+    (tie.spec (λ c. search needs) (λ c. search needs) (λ c. search needs) (λ c. search needs)
+    (λ c. simp length-set (omega arith)) (λ c. search needs) returns)

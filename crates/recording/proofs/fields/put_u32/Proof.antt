@@ -7,42 +7,6 @@ use borrow.Author.Needs.{needs}
 use Rattle.recording.proofs.fields.put_u32.Statement.{statement}
 use Rattle.recording.proofs.fields.put_u32.Tie as tie
 
-cast-destination : tie.Need-cast-destination
-cast-destination c = search needs
-
-slice-write-destination : tie.Need-slice-write-destination
-slice-write-destination c = search needs
-
-cast-destination-2 : tie.Need-cast-destination-2
-cast-destination-2 c = search needs
-
-add-destination : tie.Need-add-destination
-add-destination c = search needs
-
-slice-write-destination-2 : tie.Need-slice-write-destination-2
-slice-write-destination-2 c = simp length-set (omega arith)
-
-cast-destination-3 : tie.Need-cast-destination-3
-cast-destination-3 c = search needs
-
-add-destination-2 : tie.Need-add-destination-2
-add-destination-2 c = search needs
-
-slice-write-destination-3 : tie.Need-slice-write-destination-3
-slice-write-destination-3 c = simp length-set (omega arith)
-
-cast-destination-4 : tie.Need-cast-destination-4
-cast-destination-4 c = search needs
-
-add-destination-3 : tie.Need-add-destination-3
-add-destination-3 c = search needs
-
-slice-write-destination-4 : tie.Need-slice-write-destination-4
-slice-write-destination-4 c = simp length-set (omega arith)
-
-same-length : tie.Need-same-length
-same-length c = search needs
-
 returns : tie.Need-returns
 returns c =
     let v = c .args .value in
@@ -51,17 +15,6 @@ returns c =
 pub put-u32-spec : {M : Type 1} → statement M
 put-u32-spec =
     tie.close
-    (tie.spec
-    cast-destination
-    slice-write-destination
-    cast-destination-2
-    add-destination
-    slice-write-destination-2
-    cast-destination-3
-    add-destination-2
-    slice-write-destination-3
-    cast-destination-4
-    add-destination-3
-    slice-write-destination-4
-    same-length
-    returns)
+    (tie.spec (λ c. search needs) (λ c. search needs) (λ c. search needs) (λ c. search needs)
+    (λ c. simp length-set (omega arith)) (λ c. search needs) (λ c. search needs) (λ c. simp length-set (omega arith))
+    (λ c. search needs) (λ c. search needs) (λ c. simp length-set (omega arith)) (λ c. search needs) returns)

@@ -7,21 +7,6 @@ use borrow.Author.Needs.{needs}
 use Rattle.recording.proofs.form.check_form.Statement.{statement}
 use Rattle.recording.proofs.form.check_form.Tie as tie
 
-returns : tie.Need-returns
-returns c = sym (short-file _ (search needs))
-
-read-requires : tie.Need-read-requires
-read-requires c κs = search needs
-
-test-requires : tie.Need-test-requires
-test-requires c κs = search needs
-
-enum-known-refusal : tie.Need-enum-known-refusal
-enum-known-refusal c = search needs
-
-enum-told : tie.Need-enum-told
-enum-told c = search needs
-
 check-steps-requires : tie.Need-check-steps-requires
 check-steps-requires c κs =
     let h = c .before .before .before .read in
@@ -45,12 +30,5 @@ returns-3 c =
 pub check-form-spec : {M : Type 1} → statement M
 check-form-spec =
     tie.close
-    (tie.spec
-    returns
-    read-requires
-    test-requires
-    enum-known-refusal
-    enum-told
-    check-steps-requires
-    returns-2
-    returns-3)
+    (tie.spec (λ c. sym (short-file _ (search needs))) (λ c κs. search needs) (λ c κs. search needs)
+    (λ c. search needs) (λ c. search needs) check-steps-requires returns-2 returns-3)

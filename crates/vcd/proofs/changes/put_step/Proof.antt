@@ -10,15 +10,6 @@ returns : tie.Need-returns
 unfolding stepText
 returns c = rw (eq-eqb _ _ (c .if1 .taken)) nothing-put
 
-put-time-requires : tie.Need-put-time-requires
-put-time-requires c κs = search needs
-
-put-changes-requires : tie.Need-put-changes-requires
-put-changes-requires c κs = search needs
-
-same-length : tie.Need-same-length
-same-length c = search needs
-
 returns-2 : tie.Need-returns-2
 unfolding stepText
 returns-2 c =
@@ -28,4 +19,5 @@ returns-2 c =
 
 pub put-step-spec : {M : Type 1} → statement M
 put-step-spec =
-    tie.close (tie.spec returns put-time-requires put-changes-requires same-length returns-2)
+    tie.close
+    (tie.spec returns (λ c κs. search needs) (λ c κs. search needs) (λ c. search needs) returns-2)

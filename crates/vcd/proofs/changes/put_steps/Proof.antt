@@ -5,24 +5,6 @@ use borrow.Author.Needs.{needs}
 use Rattle.vcd.proofs.changes.put_steps.Statement.{statement}
 use Rattle.vcd.proofs.changes.put_steps.Tie as tie
 
-returns : tie.Need-returns
-returns c = rw (no-steps _ _ (c .if1 .taken)) nothing-put
-
-read-requires : tie.Need-read-requires
-read-requires c κs = search needs
-
-put-time-requires : tie.Need-put-time-requires
-put-time-requires c κs = search needs
-
-put-values-requires : tie.Need-put-values-requires
-put-values-requires c κs = search needs
-
-put-later-steps-requires : tie.Need-put-later-steps-requires
-put-later-steps-requires c κs = search needs
-
-same-length : tie.Need-same-length
-same-length c = search needs
-
 returns-2 : tie.Need-returns-2
 returns-2 c =
     let later = c .before .before in
@@ -36,11 +18,5 @@ returns-2 c =
 pub put-steps-spec : {M : Type 1} → statement M
 put-steps-spec =
     tie.close
-    (tie.spec
-    returns
-    read-requires
-    put-time-requires
-    put-values-requires
-    put-later-steps-requires
-    same-length
-    returns-2)
+    (tie.spec (λ c. rw (no-steps _ _ (c .if1 .taken)) nothing-put) (λ c κs. search needs) (λ c κs. search needs)
+    (λ c κs. search needs) (λ c κs. search needs) (λ c. search needs) returns-2)

@@ -5,21 +5,6 @@ use borrow.Author.Needs.{needs}
 use Rattle.vcd.proofs.entry.put_dump.Statement.{statement}
 use Rattle.vcd.proofs.entry.put_dump.Tie as tie
 
-read-requires : tie.Need-read-requires
-read-requires c κs = search needs
-
-put-heading-requires : tie.Need-put-heading-requires
-put-heading-requires c κs = search needs
-
-put-steps-requires : tie.Need-put-steps-requires
-put-steps-requires c κs = search needs
-
-put-time-requires : tie.Need-put-time-requires
-put-time-requires c κs = search needs
-
-same-length : tie.Need-same-length
-same-length c = search needs
-
 returns : tie.Need-returns
 returns c =
     let end = c .before .before in
@@ -33,10 +18,5 @@ returns c =
 pub put-dump-spec : {M : Type 1} → statement M
 put-dump-spec =
     tie.close
-    (tie.spec
-    read-requires
-    put-heading-requires
-    put-steps-requires
-    put-time-requires
-    same-length
-    returns)
+    (tie.spec (λ c κs. search needs) (λ c κs. search needs) (λ c κs. search needs) (λ c κs. search needs)
+    (λ c. search needs) returns)

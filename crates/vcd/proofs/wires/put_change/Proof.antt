@@ -6,21 +6,9 @@ use borrow.Author.Needs.{needs}
 use Rattle.vcd.proofs.wires.put_change.Statement.{statement}
 use Rattle.vcd.proofs.wires.put_change.Tie as tie
 
-bit-requires : tie.Need-bit-requires
-bit-requires c κs = search needs
-
-bit-requires-2 : tie.Need-bit-requires-2
-bit-requires-2 c κs = search needs
-
 returns : tie.Need-returns
 unfolding changeText
 returns c = rw (← c .before .before .bit .ensures, ← c .before .bit2 .ensures, eq-eqb _ _ (c .if1 .taken)) nothing-put
-
-put-value-requires : tie.Need-put-value-requires
-put-value-requires c κs = search needs
-
-same-length : tie.Need-same-length
-same-length c = search needs
 
 returns-2 : tie.Need-returns-2
 unfolding changeText
@@ -32,4 +20,5 @@ returns-2 c =
 pub put-change-spec : {M : Type 1} → statement M
 put-change-spec =
     tie.close
-    (tie.spec bit-requires bit-requires-2 returns put-value-requires same-length returns-2)
+    (tie.spec (λ c κs. search needs) (λ c κs. search needs) returns (λ c κs. search needs) (λ c. search needs)
+    returns-2)

@@ -4,21 +4,6 @@ use borrow.Author.Needs.{needs}
 use Rattle.vcd.proofs.wires.put_changes.Statement.{statement}
 use Rattle.vcd.proofs.wires.put_changes.Tie as tie
 
-put-change-requires : tie.Need-put-change-requires
-put-change-requires c κs = search needs
-
-put-change-requires-2 : tie.Need-put-change-requires-2
-put-change-requires-2 c κs = search needs
-
-put-change-requires-3 : tie.Need-put-change-requires-3
-put-change-requires-3 c κs = search needs
-
-put-change-requires-4 : tie.Need-put-change-requires-4
-put-change-requires-4 c κs = search needs
-
-same-length : tie.Need-same-length
-same-length c = search needs
-
 returns : tie.Need-returns
 returns c =
     let srq = c .before .before in
@@ -31,10 +16,5 @@ returns c =
 pub put-changes-spec : {M : Type 1} → statement M
 put-changes-spec =
     tie.close
-    (tie.spec
-    put-change-requires
-    put-change-requires-2
-    put-change-requires-3
-    put-change-requires-4
-    same-length
-    returns)
+    (tie.spec (λ c κs. search needs) (λ c κs. search needs) (λ c κs. search needs) (λ c κs. search needs)
+    (λ c. search needs) returns)

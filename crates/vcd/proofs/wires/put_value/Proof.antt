@@ -5,24 +5,6 @@ use borrow.Author.Needs.{needs}
 use Rattle.vcd.proofs.wires.put_value.Statement.{statement}
 use Rattle.vcd.proofs.wires.put_value.Tie as tie
 
-level-requires : tie.Need-level-requires
-level-requires c κs = search needs
-
-put-byte-requires : tie.Need-put-byte-requires
-put-byte-requires c κs = search needs
-
-identifier-requires : tie.Need-identifier-requires
-identifier-requires c κs = search needs
-
-put-byte-requires-2 : tie.Need-put-byte-requires-2
-put-byte-requires-2 c κs = search needs
-
-put-byte-requires-3 : tie.Need-put-byte-requires-3
-put-byte-requires-3 c κs = search needs
-
-same-length : tie.Need-same-length
-same-length c = search needs
-
 returns : tie.Need-returns
 unfolding valueText
 returns c =
@@ -35,11 +17,5 @@ returns c =
 pub put-value-spec : {M : Type 1} → statement M
 put-value-spec =
     tie.close
-    (tie.spec
-    level-requires
-    put-byte-requires
-    identifier-requires
-    put-byte-requires-2
-    put-byte-requires-3
-    same-length
-    returns)
+    (tie.spec (λ c κs. search needs) (λ c κs. search needs) (λ c κs. search needs) (λ c κs. search needs)
+    (λ c κs. search needs) (λ c. search needs) returns)

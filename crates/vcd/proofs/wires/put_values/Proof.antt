@@ -4,21 +4,6 @@ use borrow.Author.Needs.{needs}
 use Rattle.vcd.proofs.wires.put_values.Statement.{statement}
 use Rattle.vcd.proofs.wires.put_values.Tie as tie
 
-put-value-requires : tie.Need-put-value-requires
-put-value-requires c κs = search needs
-
-put-value-requires-2 : tie.Need-put-value-requires-2
-put-value-requires-2 c κs = search needs
-
-put-value-requires-3 : tie.Need-put-value-requires-3
-put-value-requires-3 c κs = search needs
-
-put-value-requires-4 : tie.Need-put-value-requires-4
-put-value-requires-4 c κs = search needs
-
-same-length : tie.Need-same-length
-same-length c = search needs
-
 returns : tie.Need-returns
 returns c =
     let srq = c .before .before in
@@ -31,10 +16,5 @@ returns c =
 pub put-values-spec : {M : Type 1} → statement M
 put-values-spec =
     tie.close
-    (tie.spec
-    put-value-requires
-    put-value-requires-2
-    put-value-requires-3
-    put-value-requires-4
-    same-length
-    returns)
+    (tie.spec (λ c κs. search needs) (λ c κs. search needs) (λ c κs. search needs) (λ c κs. search needs)
+    (λ c. search needs) returns)

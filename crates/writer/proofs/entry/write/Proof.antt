@@ -3,47 +3,24 @@ use mathlib.Core.Path.{ap, ap₂, _∙_}
 use native.Mathlib.Omega.{arith}
 use Rattle.answer.specs.Answers.{accepted}
 use Rattle.answer.specs.Lent.{_over_}
+use Rattle.answer.specs.declared.refusal.Refusal.the-variants.{TooManyBytes, ShortDestination}
 use Rattle.writer.specs.Written.{leaves, recordingOf}
 use Rattle.writer.proofs.WrittenLaws.{too-many, no-room, all-well, refuses, puts-down}
 use borrow.Author.Needs.{needs}
 use Rattle.writer.proofs.entry.write.Statement.{statement}
 use Rattle.writer.proofs.entry.write.Tie as tie
 
-refused-requires : tie.Need-refused-requires
-refused-requires c κs = search needs
-
 returns : tie.Need-returns
 returns c =
     let d = c .before .before .before .before .args .destination .now in
-    refuses _ d _ 10 (λ w. omega (arith, w .few, c .before .if1 .taken)) (ap (λ r. leaves r d) (c .refused .ensures))
+    refuses _ d _ TooManyBytes (λ w. omega (arith, w .few, c .before .if1 .taken)) (ap (λ r. leaves r d) (c .refused .ensures))
     (too-many _ _ d (search needs))
-
-written-length-requires : tie.Need-written-length-requires
-written-length-requires c κs = search needs
-
-refused-requires-2 : tie.Need-refused-requires-2
-refused-requires-2 c κs = search needs
 
 returns-2 : tie.Need-returns-2
 returns-2 c =
     let d = c .before .before .before .before .before .before .args .destination .now in
-    refuses _ d _ 11 (λ w. omega (arith, w .room, c .before .if2 .taken, c .before .before .written-length .ensures))
+    refuses _ d _ ShortDestination (λ w. omega (arith, w .room, c .before .if2 .taken, c .before .before .written-length .ensures))
     (ap (λ r. leaves r d) (c .refused2 .ensures)) (no-room _ _ d (search needs) (search needs))
-
-standard-requires : tie.Need-standard-requires
-standard-requires c κs = search needs
-
-put-recording-requires : tie.Need-put-recording-requires
-put-recording-requires c κs = search needs
-
-cast-accepted : tie.Need-cast-accepted
-cast-accepted c = search needs
-
-accepted-requires : tie.Need-accepted-requires
-accepted-requires c κs = search needs
-
-same-length : tie.Need-same-length
-same-length c = search needs
 
 returns-3 : tie.Need-returns-3
 returns-3 c =
@@ -61,15 +38,6 @@ returns-3 c =
 pub write-spec : {M : Type 1} → statement M
 write-spec =
     tie.close
-    (tie.spec
-    refused-requires
-    returns
-    written-length-requires
-    refused-requires-2
-    returns-2
-    standard-requires
-    put-recording-requires
-    cast-accepted
-    accepted-requires
-    same-length
+    (tie.spec (λ c κs. search needs) returns (λ c κs. search needs) (λ c κs. search needs) returns-2
+    (λ c κs. search needs) (λ c κs. search needs) (λ c. search needs) (λ c κs. search needs) (λ c. search needs)
     returns-3)

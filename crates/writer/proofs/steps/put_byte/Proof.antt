@@ -5,18 +5,6 @@ use borrow.Author.Needs.{needs}
 use Rattle.writer.proofs.steps.put_byte.Statement.{statement}
 use Rattle.writer.proofs.steps.put_byte.Tie as tie
 
-put-opening-requires : tie.Need-put-opening-requires
-put-opening-requires c κs = search needs
-
-put-lines-requires : tie.Need-put-lines-requires
-put-lines-requires c κs = search needs
-
-put-value-requires : tie.Need-put-value-requires
-put-value-requires c κs = search needs
-
-same-length : tie.Need-same-length
-same-length c = search needs
-
 returns : tie.Need-returns
 returns c =
     let opening = c .before .before .before .before .before .before .before .before .before .before .put-opening in
@@ -28,4 +16,4 @@ returns c =
 pub put-byte-spec : {M : Type 1} → statement M
 put-byte-spec =
     tie.close
-    (tie.spec put-opening-requires put-lines-requires put-value-requires same-length returns)
+    (tie.spec (λ c κs. search needs) (λ c κs. search needs) (λ c κs. search needs) (λ c. search needs) returns)

@@ -6,23 +6,11 @@ use borrow.Author.Needs.{needs}
 use Rattle.writer.proofs.steps.put_last_byte.Statement.{statement}
 use Rattle.writer.proofs.steps.put_last_byte.Tie as tie
 
-put-opening-requires : tie.Need-put-opening-requires
-put-opening-requires c κs = search needs
-
-put-acknowledged-requires : tie.Need-put-acknowledged-requires
-put-acknowledged-requires c κs = search needs
-
-put-value-requires : tie.Need-put-value-requires
-put-value-requires c κs = search needs
-
 put-closing-requires : tie.Need-put-closing-requires
 put-closing-requires c κs =
     let value = c .before .before .before .before in
     let a = value .before .before .before .before .before .before .before .before .before .before .args in
     omega (arith, value-count (a .card) (a .value))
-
-same-length : tie.Need-same-length
-same-length c = search needs
 
 returns : tie.Need-returns
 returns c =
@@ -37,10 +25,5 @@ returns c =
 pub put-last-byte-spec : {M : Type 1} → statement M
 put-last-byte-spec =
     tie.close
-    (tie.spec
-    put-opening-requires
-    put-acknowledged-requires
-    put-value-requires
-    put-closing-requires
-    same-length
-    returns)
+    (tie.spec (λ c κs. search needs) (λ c κs. search needs) (λ c κs. search needs) put-closing-requires
+    (λ c. search needs) returns)

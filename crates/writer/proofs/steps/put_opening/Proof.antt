@@ -4,15 +4,6 @@ use borrow.Author.Needs.{needs}
 use Rattle.writer.proofs.steps.put_opening.Statement.{statement}
 use Rattle.writer.proofs.steps.put_opening.Tie as tie
 
-put-lines-requires : tie.Need-put-lines-requires
-put-lines-requires c κs = search needs
-
-put-lines-requires-2 : tie.Need-put-lines-requires-2
-put-lines-requires-2 c κs = search needs
-
-same-length : tie.Need-same-length
-same-length c = search needs
-
 returns : tie.Need-returns
 returns c =
     let hold = c .before .before .before .before .before .before .put-lines in
@@ -20,4 +11,4 @@ returns c =
     and-then (hold .ensures) (ready .ensures)
 
 pub put-opening-spec : {M : Type 1} → statement M
-put-opening-spec = tie.close (tie.spec put-lines-requires put-lines-requires-2 same-length returns)
+put-opening-spec = tie.close (tie.spec (λ c κs. search needs) (λ c κs. search needs) (λ c. search needs) returns)

@@ -6,16 +6,10 @@ use borrow.Author.Needs.{needs}
 use Rattle.writer.proofs.steps.put_value.Statement.{statement}
 use Rattle.writer.proofs.steps.put_value.Tie as tie
 
-put-bits-requires : tie.Need-put-bits-requires
-put-bits-requires c κs = search needs
-
 put-lines-requires : tie.Need-put-lines-requires
 put-lines-requires c κs =
     let a = c .before .before .before .before .before .before .args in
     (search needs, search needs, omega (arith, bits-count (a .card) 8 (a .value)))
-
-same-length : tie.Need-same-length
-same-length c = search needs
 
 returns : tie.Need-returns
 returns c =
@@ -24,4 +18,4 @@ returns c =
     and-then (bits .ensures) (take .ensures)
 
 pub put-value-spec : {M : Type 1} → statement M
-put-value-spec = tie.close (tie.spec put-bits-requires put-lines-requires same-length returns)
+put-value-spec = tie.close (tie.spec (λ c κs. search needs) put-lines-requires (λ c. search needs) returns)

@@ -1,30 +1,33 @@
 -- `next` meets its contract. Assumes nothing.
-use Rattle.transfer.specs.Moves.{move}
-use Rattle.reader.specs.States.{nextState}
-use mathlib.Core.Path.{sym, _∙_}
+use Rattle.transfer.specs.Moves.{isDecided}
+use Rattle.transfer.proofs.Stages.{undecided-move}
+use Rattle.reader.specs.States.{follow, nextState}
+use Rattle.reader.proofs.TickLaws.{no-change}
+use mathlib.Core.Path.{_≡_, sym, ap, _∙_}
 use borrow.Author.Needs.{needs}
 use Rattle.reader.proofs.state.State.next.Statement.{statement}
 use Rattle.reader.proofs.state.State.next.Tie as tie
 
+returns : tie.Need-returns
+returns c =
+    let a = c .before .before .args in
+    sym (no-change (a .limits) (a .self) (a .lines) (sym (c .before .is-decided .ensures) ∙ c .if1 .taken))
+
 returns-2 : tie.Need-returns-2
-unfolding nextState move
-returns-2 c = rw (
-  sym (c .before .before .before .is-decided .ensures)
-      ∙ c .before .before .if1 .left,
-  c .before .if2 .taken,
-) (c .stop .ensures)
+unfolding nextState
+returns-2 c =
+    let a = c .before .before .before .before .args in
+    let u = sym (c .before .before .before .is-decided .ensures) ∙ c .before .before .if1 .left in
+    rw (undecided-move (a .limits) (a .self .tick) (a .self .phase) (a .lines) u, c .before .if2 .taken) (c .stop .ensures)
 
 returns-3 : tie.Need-returns-3
-unfolding nextState move
-returns-3 c = rw (
-  sym (c .before .before .before .is-decided .ensures)
-      ∙ c .before .before .if1 .left,
-  c .before .if2 .left,
-) (c .rows .ensures)
+unfolding nextState
+returns-3 c =
+    let a = c .before .before .before .before .args in
+    let u = sym (c .before .before .before .is-decided .ensures) ∙ c .before .before .if1 .left in
+    rw (undecided-move (a .limits) (a .self .tick) (a .self .phase) (a .lines) u, c .before .if2 .left) (c .rows .ensures)
 
 pub next-spec : {M : Type 1} → statement M
-unfolding nextState move
 next-spec =
     tie.close
-    (tie.spec (λ c κs. search needs) (λ c. rw (sym (c .before .is-decided .ensures) ∙ c .if1 .taken))
-    (λ c κs. search needs) returns-2 (λ c κs. search needs) returns-3)
+    (tie.spec (λ c κs. search needs) returns (λ c κs. search needs) returns-2 (λ c κs. search needs) returns-3)

@@ -13,24 +13,9 @@ returns-2 : tie.Need-returns-2
 unfolding headerTest
 returns-2 c = search tests
 
-cast-if3 : tie.Need-cast-if3
-cast-if3 c = search needs
-
 returns-3 : tie.Need-returns-3
 unfolding headerTest
 returns-3 c = search tests
-
-cast-length : tie.Need-cast-length
-cast-length c = search needs
-
-mul-length : tie.Need-mul-length
-mul-length c = search needs
-
-add-length : tie.Need-add-length
-add-length c = search needs
-
-cast-if4 : tie.Need-cast-if4
-cast-if4 c = search needs
 
 returns-4 : tie.Need-returns-4
 unfolding headerTest
@@ -47,15 +32,5 @@ returns-6 c = search tests
 pub test-spec : {M : Type 1} → statement M
 test-spec =
     tie.close
-    (tie.spec
-    returns
-    returns-2
-    cast-if3
-    returns-3
-    cast-length
-    mul-length
-    add-length
-    cast-if4
-    returns-4
-    returns-5
-    returns-6)
+    (tie.spec returns returns-2 (λ c. search needs) returns-3 (λ c. search needs) (λ c. search needs)
+    (λ c. search needs) (λ c. search needs) returns-4 returns-5 returns-6)

@@ -1,0 +1,2 @@
+-- Why it holds. The crates above cite Numbers.
+pub mod Numbers

@@ -1,0 +1,67 @@
+-- Document 01's numbers, "Numbers and what they leave": the one place where they stand.
+use Prim.Native.Nat.{ℕ}
+use mathlib.Core.Path.{_≡_}
+use Rattle.answer.specs.declared.refusal.Refusal.{Refusal}
+use Rattle.answer.specs.declared.refusal.Refusal.the-variants.{ShortFile, WrongVersion, TooManySteps, WrongOffset}
+use Rattle.answer.specs.declared.refusal.Refusal.the-variants.{WrongLength, ZeroDuration, StrayBits, WrongTotal}
+use Rattle.answer.specs.declared.refusal.Refusal.the-variants.{ShortBuffers, TooManyBytes, ShortDestination}
+use Rattle.answer.specs.declared.verdict.Fault.{Fault}
+use Rattle.answer.specs.declared.verdict.Fault.the-variants.{EmptyStream, Attention, NoReceiver, BadStart, OutOfTurn}
+use Rattle.answer.specs.declared.verdict.Fault.the-variants.{EndMarkNotAcknowledged, AcknowledgementShort}
+use Rattle.answer.specs.declared.verdict.Fault.the-variants.{AcknowledgementLong, LateClock, SenderTimeout}
+use Rattle.answer.specs.declared.verdict.Fault.the-variants.{ValidTimeShort, DataMoved, ClockStall, ReceiverTimeout}
+use Rattle.answer.specs.declared.verdict.Fault.the-variants.{Hurried, MovedAfterEnd}
+use Rattle.answer.specs.declared.verdict.Verdict.{Verdict}
+use Rattle.answer.specs.declared.verdict.Verdict.the-variants.{Complete, Cut, Broken}
+
+-- "Refusals"; the definitions that give them say when.
+abbrev pub refusalNumber : Refusal → ℕ
+refusalNumber ShortFile = 1  -- "fewer than 16 bytes"
+refusalNumber WrongVersion = 2  -- "version is not 1"
+refusalNumber TooManySteps = 3  -- "n above 16,000"
+refusalNumber WrongOffset = 4  -- "offset is not 16"
+refusalNumber WrongLength = 5  -- "length field, or true length, is not 16+4n"
+refusalNumber ZeroDuration = 6  -- "a step of duration 0"
+refusalNumber StrayBits = 7  -- "a step with other line bits or a last byte not 0"
+refusalNumber WrongTotal = 8  -- "total ticks wrong"
+refusalNumber ShortBuffers = 9  -- "byte buffer under 1,000 places, or ledger under 2,000"
+refusalNumber TooManyBytes = 10  -- "writer: more than 799 bytes"
+refusalNumber ShortDestination = 11  -- "writer: destination under 80n+36 bytes, n the number of bytes given"
+
+-- "Verdicts: 20 complete, 21 empty stream, 22 cut, 23 attention, .."
+abbrev pub verdictNumber : Verdict → ℕ
+verdictNumber Complete = 20
+verdictNumber (Broken EmptyStream) = 21
+verdictNumber Cut = 22
+verdictNumber (Broken Attention) = 23
+verdictNumber (Broken NoReceiver) = 24
+verdictNumber (Broken BadStart) = 25
+verdictNumber (Broken OutOfTurn) = 26
+verdictNumber (Broken EndMarkNotAcknowledged) = 27
+verdictNumber (Broken AcknowledgementShort) = 28
+verdictNumber (Broken AcknowledgementLong) = 29
+verdictNumber (Broken LateClock) = 30
+verdictNumber (Broken SenderTimeout) = 31
+verdictNumber (Broken ValidTimeShort) = 32
+verdictNumber (Broken DataMoved) = 33
+verdictNumber (Broken ClockStall) = 34
+verdictNumber (Broken ReceiverTimeout) = 35
+verdictNumber (Broken Hurried) = 36
+verdictNumber (Broken MovedAfterEnd) = 37
+
+-- A number is a verdict's: some verdict has it.
+pub record IsVerdict (number : ℕ) : Type 0 where
+  pub verdict : Verdict
+  pub numbered : verdictNumber verdict ≡ number
+
+-- Complete alone has the number 20.
+abbrev pub OnlyCompleteIs20 : Type 0
+OnlyCompleteIs20 = (v : Verdict) → verdictNumber v ≡ 20 → v ≡ Complete
+
+-- And cut alone 22.
+abbrev pub OnlyCutIs22 : Type 0
+OnlyCutIs22 = (v : Verdict) → verdictNumber v ≡ 22 → v ≡ Cut
+
+-- No refusal has a verdict's number.
+abbrev pub VerdictsAreNoRefusals : Type 0
+VerdictsAreNoRefusals = (v : Verdict) (r : Refusal) → verdictNumber v ≡ refusalNumber r → ⊥

@@ -1,0 +1,2 @@
+-- The table of single tick lists holds, by one computation through the definitions.
+pub mod Readings

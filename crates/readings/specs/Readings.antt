@@ -1,0 +1,121 @@
+-- Where two rows of document 01 meet: tick lists whose outcomes show how it is read there, and on which tick each time falls.
+-- docs/DECISIONS.md gives the reasons.
+use Prim.Native.Nat.{ℕ}
+use mathlib.Core.Path.{_≡_}
+use mathlib.Core.List.{List, [], _∷_, _++_}
+use mathlib.Core.Bool.{Bool, true, _&&_}
+use lib.Dec.{eqb}
+use lib.ListN.{length}
+use Rattle.transfer.specs.Limits.{standardLimits}
+use Rattle.transfer.specs.Outcome.{outcome}
+use Rattle.transfer.specs.SampleSpans.{_∶_, opening, bits, till41, s1}
+use Rattle.transfer.specs.Spans.{Span, ticks}
+use Rattle.answer.specs.Numbers.{verdictNumber}
+
+-- The byte 0x80, from tick 0 to the CLK pull after bit 8, which is tick 1,630.
+abbrev pub till80 : List Span
+till80 = opening 220 80 ++ bits (0 ∷ 0 ∷ 0 ∷ 0 ∷ 0 ∷ 0 ∷ 0 ∷ 4 ∷ [])
+
+-- The byte 0x41 as a first byte that is not the last.
+abbrev pub plain41 : List Span
+plain41 = 200 ∶ 6 ∷ 50 ∶ 4 ∷ 60 ∶ 0 ∷ bits (4 ∷ 0 ∷ 0 ∷ 0 ∷ 0 ∷ 0 ∷ 4 ∷ 0 ∷ [])
+
+-- A tick list, and the number, tick and count that it comes to.
+pub record Reading : Type 0 where
+  pub spans : List Span
+  pub number : ℕ
+  pub tick : ℕ
+  pub count : ℕ
+
+abbrev pub reads : List Span → (number tick count : ℕ) → Reading
+reads spans number tick count = record { spans = spans; number = number; tick = tick; count = count }
+
+abbrev pub readings : List Reading
+readings =
+    -- S1 of document 01, and the same without its last step.
+    reads s1 20 1910 1
+    ∷ reads (till41 ++ (30 ∶ 2 ∷ 200 ∶ 6 ∷ 50 ∶ 4 ∷ [])) 22 1910 1
+    -- A 201st set-up tick, and a 201st valid tick: 34.
+    ∷ reads (opening 220 80 ++ (201 ∶ 6 ∷ [])) 34 790 0
+    ∷ reads (opening 220 80 ++ (70 ∶ 6 ∷ 201 ∶ 4 ∷ [])) 34 860 0
+    -- A 201st valid tick in which DATA moved: 33, whose row is the earlier one.
+    ∷ reads (opening 220 80 ++ (70 ∶ 6 ∷ 200 ∶ 4 ∷ 1 ∶ 0 ∷ [])) 33 860 0
+    -- The first valid tick with other DATA than the last set-up tick: 33.
+    ∷ reads (opening 220 80 ++ (70 ∶ 6 ∷ 1 ∶ 0 ∷ [])) 33 660 0
+    -- A CLK pull after 19 valid ticks, not after 20: 32, also with DATA moved in the same tick, and after bit 8.
+    ∷ reads (opening 220 80 ++ (70 ∶ 6 ∷ 19 ∶ 4 ∷ 1 ∶ 2 ∷ [])) 32 679 0
+    ∷ reads (opening 220 80 ++ (70 ∶ 6 ∷ 20 ∶ 4 ∷ 1 ∶ 2 ∷ [])) 22 681 0
+    ∷ reads (opening 220 80 ++ (bits (0 ∷ 0 ∷ 0 ∷ 0 ∷ 0 ∷ 0 ∷ 0 ∷ []) ++ (70 ∶ 2 ∷ 19 ∶ 0 ∷ 1 ∶ 6 ∷ []))) 32 1589 0
+    -- Bit 8 zero, and offset 0 of the handover shows (1,1): 26.
+    ∷ reads (till41 ++ (1 ∶ 6 ∷ [])) 26 1630 0
+    -- Carried: DATA released with CLK is 26 and not 36.
+    ∷ reads (till80 ++ (50 ∶ 6 ∷ 1 ∶ 0 ∷ [])) 26 1680 0
+    -- Carried has no upper end: 35 never falls there.
+    ∷ reads (till80 ++ (1500 ∶ 6 ∷ 50 ∶ 4 ∷ 100 ∶ 0 ∷ [])) 20 3180 1
+    -- Carried, then open: 35 still counts from offset 0.
+    ∷ reads (till80 ++ (100 ∶ 6 ∷ 901 ∶ 2 ∷ [])) 35 2630 0
+    -- Open at offset 1,000: CLK released is 26 and not 35.
+    ∷ reads (till41 ++ (1000 ∶ 2 ∷ 1 ∶ 4 ∷ [])) 26 2630 0
+    -- B, too soon: both released is 26; 36 is for (0,1) alone, 99 ticks after the take and not 100, and the byte is not counted.
+    -- The first B has no such time.
+    ∷ reads (till41 ++ (30 ∶ 2 ∷ 50 ∶ 6 ∷ 1 ∶ 0 ∷ [])) 26 1710 0
+    ∷ reads (till41 ++ (30 ∶ 2 ∷ 99 ∶ 6 ∷ 1 ∶ 4 ∷ [])) 36 1759 0
+    ∷ reads (till41 ++ (30 ∶ 2 ∷ 100 ∶ 6 ∷ 1 ∶ 4 ∷ [])) 22 1761 1
+    ∷ reads (50 ∶ 6 ∷ 50 ∶ 4 ∷ []) 22 100 0
+    -- The first B with DATA released: 26, with CLK pulled and released.
+    ∷ reads (50 ∶ 6 ∷ 1 ∶ 2 ∷ []) 26 50 0
+    ∷ reads (50 ∶ 6 ∷ 1 ∶ 0 ∷ []) 26 50 0
+    -- C: the byte is handed over on entering it, and a fault in it counts the byte.
+    ∷ reads (till41 ++ (30 ∶ 2 ∷ 200 ∶ 6 ∷ 50 ∶ 4 ∷ 1 ∶ 2 ∷ [])) 26 1910 1
+    -- At the last offset of a phase the rows of CLK and DATA come first: A at 256, D at 290, F at 150, G at 512 after D.
+    ∷ reads (256 ∶ 2 ∷ 1 ∶ 0 ∷ []) 26 256 0
+    ∷ reads (opening 290 150) 22 730 0
+    ∷ reads (200 ∶ 6 ∷ 50 ∶ 4 ∷ 220 ∶ 0 ∷ 80 ∶ 4 ∷ 212 ∶ 0 ∷ 1 ∶ 2 ∷ []) 30 762 0
+    -- The 512 counts from D's first tick, through the acknowledgement: 21 with no byte handed over, 31 after one.
+    ∷ reads (opening 220 80 ++ (300 ∶ 0 ∷ [])) 21 762 0
+    ∷ reads (plain41 ++ (30 ∶ 2 ∷ 200 ∶ 6 ∷ 50 ∶ 4 ∷ 220 ∶ 0 ∷ 80 ∶ 4 ∷ 300 ∶ 0 ∷ [])) 31 2142 1
+    -- A's last offset: 24 falls at 256.
+    ∷ reads (257 ∶ 2 ∷ []) 24 256 0
+    -- D: a gap of 199 ticks is none for an end mark, one of 200 is.
+    ∷ reads (opening 199 80) 26 449 0
+    ∷ reads (opening 200 80) 22 570 0
+    -- D with CLK pulled at 199 begins the bits, at 200 it is 26.
+    ∷ reads (200 ∶ 6 ∷ 50 ∶ 4 ∷ 199 ∶ 0 ∷ 1 ∶ 2 ∷ []) 22 450 0
+    ∷ reads (200 ∶ 6 ∷ 50 ∶ 4 ∷ 200 ∶ 0 ∷ 1 ∶ 2 ∷ []) 26 450 0
+    -- F with CLK pulled: 26. G with (0,1): 26.
+    ∷ reads (200 ∶ 6 ∷ 50 ∶ 4 ∷ 220 ∶ 0 ∷ 80 ∶ 4 ∷ 1 ∶ 6 ∷ []) 26 550 0
+    ∷ reads (opening 220 80 ++ (1 ∶ 4 ∷ [])) 26 590 0
+    -- G: CLK pulled at offset 60 begins the bits, at 61 it is late.
+    ∷ reads (200 ∶ 6 ∷ 50 ∶ 4 ∷ 220 ∶ 0 ∷ 80 ∶ 4 ∷ 60 ∶ 0 ∷ 1 ∶ 6 ∷ []) 22 611 0
+    ∷ reads (200 ∶ 6 ∷ 50 ∶ 4 ∷ 220 ∶ 0 ∷ 80 ∶ 4 ∷ 61 ∶ 0 ∷ 1 ∶ 6 ∷ []) 30 611 0
+    -- D's and F's last offsets, and carried's: 27, 29 and 26 fall one tick later than the last that is allowed.
+    ∷ reads (200 ∶ 6 ∷ 50 ∶ 4 ∷ 291 ∶ 0 ∷ []) 27 540 0
+    ∷ reads (200 ∶ 6 ∷ 50 ∶ 4 ∷ 220 ∶ 0 ∷ 151 ∶ 4 ∷ []) 29 620 0
+    ∷ reads (till80 ++ (101 ∶ 6 ∷ 1 ∶ 2 ∷ [])) 26 1731 0
+    -- F: an acknowledgement of 59 ticks is too short, one of 60 is not.
+    ∷ reads (opening 220 59) 28 529 0
+    ∷ reads (opening 220 60) 22 570 0
+    -- ATN comes before anything else, also in E and where tick 0 would be 25.
+    ∷ reads (1 ∶ 1 ∷ []) 23 0 0
+    ∷ reads (s1 ++ (1 ∶ 1 ∷ [])) 23 2010 1
+    -- E: any tick other than (0,0) is 37. SRQ, bit 3, changes no answer.
+    ∷ reads (s1 ++ (1 ∶ 2 ∷ [])) 37 2010 1
+    ∷ reads (s1 ++ (1 ∶ 4 ∷ [])) 37 2010 1
+    ∷ reads (s1 ++ (1 ∶ 8 ∷ [])) 20 1910 1
+    -- A verdict stands: ATN pulled later changes nothing.
+    ∷ reads (1 ∶ 0 ∷ 1 ∶ 1 ∷ []) 25 0 0
+    -- No ticks at all.
+    ∷ reads [] 22 0 0
+    ∷ []
+
+abbrev pub holds : Reading → Bool
+holds r =
+    let o = outcome standardLimits (ticks (r .spans)) in
+    eqb (verdictNumber (o .decision .verdict)) (r .number) && (eqb (o .decision .tick) (r .tick) && eqb (length (o .bytes)) (r .count))
+
+abbrev pub allHold : List Reading → Bool
+allHold [] = true
+allHold (r ∷ rs) = holds r && allHold rs
+
+abbrev pub ReadingsHold : Type 0
+ReadingsHold = allHold readings ≡ true

@@ -1,0 +1,7 @@
+// The outcome of a test that may refuse.
+use answer::Refusal;
+
+pub(crate) enum Test {
+    Passed,
+    Failed(Refusal),
+}

@@ -1,0 +1,149 @@
+-- Document 01, "Sample recordings": the starred ones, in its order, each judged as a whole file; a cut after a byte;
+-- and every refusal.
+use Prim.Native.Nat.{ℕ, zero, suc}
+use mathlib.Core.List.{List, [], _∷_, _++_, map}
+use mathlib.Core.Path.{_≡_}
+use lib.ListN.{replicate}
+use Rattle.answer.specs.Lent.{_over_}
+use Rattle.answer.specs.declared.Answer.{Answer}
+use Rattle.recording.specs.FileOf.{headerBytes, fileOf}
+use Rattle.recording.specs.SampleSteps.{_∶_, zeros, s1With, s1, s80With, s1File}
+use Rattle.recording.specs.declared.step.Step.{Step}
+use Rattle.transfer.specs.Limits.{standardLimits}
+use Rattle.transfer.specs.SampleSpans.{s1 as s1Spans}
+use Rattle.transfer.specs.Spans.{ticks}
+use Rattle.judge.specs.Judged.{Judged, leaves, tickLines, judged}
+
+-- The steps of a recording, its answer, and what the two buffers then begin with.
+pub record Sample : Type 0 where
+  pub steps : List Step
+  pub answer : Answer
+  pub bytes : List ℕ
+  pub ledger : List ℕ
+
+-- A sample that hands no byte over, and one that is complete with a byte.
+abbrev pub stops : List Step → (number tick step : ℕ) → Sample
+stops steps number tick step =
+    record { steps = steps; answer = record { number = number; tick = tick; step = step; count = 0 }; bytes = []; ledger = [] }
+
+abbrev pub sends : List Step → (tick step value let-go take : ℕ) → Sample
+sends steps tick step value let-go take =
+    record {
+      steps = steps;
+      answer = record { number = 20; tick = tick; step = step; count = 1 };
+      bytes = value ∷ [];
+      ledger = let-go ∷ take ∷ [];
+    }
+
+abbrev pub samples : List Sample
+samples =
+    -- "S1. The byte 0x41": "verdict 20, tick 1,910, step 24, count 1, ledger 1630, 1660."
+    sends s1 1910 24 0x41 1630 1660
+    -- "No steps: 22, tick 0." "Written from no bytes: 21, tick 762, step 4."
+    ∷ stops [] 22 0 0
+    ∷ stops (200 ∶ 6 ∷ 50 ∶ 4 ∷ 220 ∶ 0 ∷ 80 ∶ 4 ∷ 300 ∶ 0 ∷ []) 21 762 4
+    -- "(1,0) for 257 ticks: 24 at 256; for 256, then (1,1): 22."
+    ∷ stops (257 ∶ 2 ∷ []) 24 256 0
+    ∷ stops (256 ∶ 2 ∷ 1 ∶ 6 ∷ []) 22 257 2
+    -- "S1 with 199 for 220: 26 at 449; with 200: 20."
+    ∷ stops (s1With 199 80 40 60 200) 26 449 3
+    ∷ sends (s1With 200 80 40 60 200) 1890 24 0x41 1610 1640
+    -- "S1 with 59 for 80: 28 at 529." "With 61 for 40: 30 at 611; with 60: 20."
+    ∷ stops (s1With 220 59 40 60 200) 28 529 4
+    ∷ stops (s1With 220 80 61 60 200) 30 611 5
+    ∷ sends (s1With 220 80 60 60 200) 1930 24 0x41 1650 1680
+    -- "S1 with the first valid 19: 32 at 679; with 20: 20."
+    ∷ stops (s1With 220 80 40 19 200) 32 679 7
+    ∷ sends (s1With 220 80 40 20 200) 1870 24 0x41 1590 1620
+    -- "The byte 0x80, the 30:2 step left out and the last hold 100: 36 at 1,730." "With it 101: 20, ledger 1631, 1631."
+    ∷ stops (s80With 100) 36 1730 22
+    ∷ sends (s80With 101) 1781 23 0x80 1631 1631
+    -- "S1 with its last hold 99: 36 at 1,759."
+    ∷ stops (s1With 220 80 40 60 99) 36 1759 23
+    ∷ []
+
+-- The buffers that are lent, just large enough. Every place of them has a mark, so that a place which should have kept it is seen.
+abbrev pub markedBytes : List ℕ
+markedBytes = replicate 1000 0xA5
+
+abbrev pub markedLedger : List ℕ
+markedLedger = replicate 2000 0xA5A5A5A5
+
+abbrev pub judgedSample : Sample → Judged
+judgedSample s = judged standardLimits (fileOf (s .steps)) markedBytes markedLedger
+
+abbrev pub expectedOf : Sample → Judged
+expectedOf s = leaves (s .answer) (s .bytes over markedBytes) (s .ledger over markedLedger)
+
+abbrev pub SamplesHold : Type 0
+SamplesHold = map judgedSample samples ≡ map expectedOf samples
+
+-- Beyond these: the byte 0x41 as one that is not the last, cut in phase C. It was handed over, so that 22 has a count here.
+abbrev pub cutAfterByte : Sample
+cutAfterByte =
+    record {
+      steps =
+          200 ∶ 6 ∷ 50 ∶ 4 ∷ 60 ∶ 0 ∷ 70 ∶ 6 ∷ 60 ∶ 4
+          ∷ (zeros 5 ++ (70 ∶ 6 ∷ 60 ∶ 4 ∷ 70 ∶ 2 ∷ 60 ∶ 0 ∷ 30 ∶ 2 ∷ 200 ∶ 6 ∷ 50 ∶ 4 ∷ []));
+      answer = record { number = 22; tick = 1630; step = 22; count = 1 };
+      bytes = 0x41 ∷ [];
+      ledger = 1350 ∷ 1380 ∷ [];
+    }
+
+abbrev pub CutAfterByteHolds : Type 0
+CutAfterByteHolds = judgedSample cutAfterByte ≡ expectedOf cutAfterByte
+
+-- S1's file is the one that document 01 prints.
+abbrev pub S1Printed : Type 0
+S1Printed = fileOf s1 ≡ s1File
+
+-- Its steps mean the ticks that the crate transfer reads as S1.
+abbrev pub S1Ticks : Type 0
+S1Ticks = tickLines s1 ≡ ticks s1Spans
+
+-- A file and lent buffers that are refused, with the number and the step; the rest of the answer is 0, and the buffers keep what they held.
+pub record RefusedSample : Type 0 where
+  pub file : List ℕ
+  pub bytes : List ℕ
+  pub ledger : List ℕ
+  pub number : ℕ
+  pub step : ℕ
+
+-- One that is refused before the room is looked at: no place is lent.
+abbrev pub refusedForm : (file : List ℕ) (number step : ℕ) → RefusedSample
+refusedForm file number step = record { file = file; bytes = []; ledger = []; number = number; step = step }
+
+-- A header and nothing after it.
+abbrev pub headerOnly : (version steps offset total size : ℕ) → List ℕ
+headerOnly version steps offset total size =
+    headerBytes (record { version = version; steps = steps; offset = offset; total = total; length = size })
+
+abbrev pub refusedSamples : List RefusedSample
+refusedSamples =
+    -- 1 to 5; where a file has several faults, the earliest test decides. A true length may be too long or too short.
+    refusedForm [] 1 0
+    ∷ refusedForm (replicate 15 0) 1 0
+    ∷ refusedForm (headerOnly 2 16001 17 1 0) 2 0
+    ∷ refusedForm (headerOnly 1 16001 17 1 0) 3 0
+    ∷ refusedForm (headerOnly 1 16000 17 1 0) 4 0
+    ∷ refusedForm (headerOnly 1 0 16 1 17) 5 0
+    ∷ refusedForm (fileOf [] ++ (0 ∷ [])) 5 0
+    ∷ refusedForm (headerOnly 1 1 16 1 20) 5 0
+    -- 6 and 7 name the step; 6 comes before 7 in one step, and an earlier step before a later one.
+    ∷ refusedForm (fileOf (200 ∶ 6 ∷ 0 ∶ 16 ∷ [])) 6 1
+    ∷ refusedForm (fileOf (200 ∶ 6 ∷ 50 ∶ 16 ∷ 0 ∶ 4 ∷ [])) 7 1
+    ∷ refusedForm (fileOf (200 ∶ 6 ∷ 50 ∶ 4 ∷ record { duration = 60; lines = 0; last = 1 } ∷ [])) 7 2
+    ∷ refusedForm (headerOnly 1 0 16 1 16) 8 0
+    -- 9: 999 and 1,999 places.
+    ∷ record { file = s1File; bytes = replicate 999 0xA5; ledger = markedLedger; number = 9; step = 0 }
+    ∷ record { file = s1File; bytes = markedBytes; ledger = replicate 1999 0xA5A5A5A5; number = 9; step = 0 }
+    ∷ []
+
+abbrev pub judgedRefused : RefusedSample → Judged
+judgedRefused r = judged standardLimits (r .file) (r .bytes) (r .ledger)
+
+abbrev pub expectedRefused : RefusedSample → Judged
+expectedRefused r = leaves (record { number = r .number; tick = 0; step = r .step; count = 0 }) (r .bytes) (r .ledger)
+
+abbrev pub RefusedSamplesHold : Type 0
+RefusedSamplesHold = map judgedRefused refusedSamples ≡ map expectedRefused refusedSamples

@@ -1,0 +1,15 @@
+-- What an entry promises that writes a recording: of the answer and of the destination, whole, as the call leaves them.
+use Prim.Native.Nat.{ℕ}
+use mathlib.Core.List.{List}
+use mathlib.Core.Path.{_≡_}
+use Rattle.answer.specs.Lent.{first}
+use Rattle.transfer.specs.declared.limits.Limits.{Limits}
+use Rattle.writer.specs.ReadBack.{ReadsBack, Writable}
+use Rattle.writer.specs.Written.{Written, written}
+use Rattle.writer.specs.declared.card.Card.{Card}
+
+pub record WritePromise (L : Limits) (card : Card) (bytes destination : List ℕ) (left : Written) : Type 0 where
+  -- They are what the definition gives.
+  pub given : left ≡ written card bytes destination
+  -- Demand 2: where no refusal is due, the judge reads what was put down back as these very bytes.
+  pub reads-back : Writable bytes destination → ReadsBack L (first (left .answer .count) (left .destination)) bytes
