@@ -3,23 +3,11 @@
 
 use crate::limits::{SET_UP_MOST, VALID_LEAST, VALID_MOST};
 use crate::numbers::{CLOCK_STALL, DATA_MOVED, VALID_TIME_SHORT};
-use crate::plain_byte::{plain_byte, PLAIN_STEPS};
 use crate::reader::{Decision, Reader};
 use crate::step::Lines;
 
-/// Reads a byte, most often a plain one.
-#[inline]
+/// Reads a byte, "least significant first, pulled is one".
 pub fn byte(reader: &mut Reader) -> Result<u8, Decision> {
-    let Some(plain) = reader.ahead().and_then(plain_byte) else {
-        return bit_by_bit(reader);
-    };
-    reader.pass(PLAIN_STEPS, plain.ticks)?;
-    Ok(plain.value)
-}
-
-/// Reads any byte, "least significant first, pulled is one".
-#[inline(never)]
-fn bit_by_bit(reader: &mut Reader) -> Result<u8, Decision> {
     let mut value = 0;
     for bit in 0..u8::BITS {
         let lines = set_up(reader)?;

@@ -16,7 +16,6 @@ mod judge;
 mod limits;
 mod numbers;
 mod phases;
-mod plain_byte;
 mod reader;
 pub mod recording;
 mod step;

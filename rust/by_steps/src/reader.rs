@@ -65,20 +65,6 @@ impl<'a> Reader<'a> {
         Ok(self.lines())
     }
 
-    /// The step and those that follow it, N in all.
-    #[inline]
-    pub fn ahead<const N: usize>(&self) -> Option<&'a [StepBytes; N]> {
-        self.steps.get(self.number..)?.first_chunk()
-    }
-
-    /// Goes on by some steps, of `ticks` ticks together.
-    #[inline]
-    pub fn pass(&mut self, steps: usize, ticks: u32) -> Result<Lines, Decision> {
-        self.end_tick = self.tick() + ticks;
-        self.number += steps - 1;
-        self.advance()
-    }
-
     /// The lines of the step.
     #[inline]
     pub fn lines(&self) -> Lines {

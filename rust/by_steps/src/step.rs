@@ -1,6 +1,6 @@
 //! One step of a recording: its duration and its lines.
 
-use core::ops::{BitAnd, BitOr, BitXor};
+use core::ops::{BitAnd, BitOr};
 
 pub(crate) const STEP_BYTES: usize = 4;
 
@@ -97,25 +97,5 @@ impl BitAnd for Lines {
     #[inline]
     fn bitand(self, other: Self) -> Self {
         Lines(self.0 & other.0)
-    }
-}
-
-/// The lines pulled in either.
-impl BitOr for Lines {
-    type Output = Self;
-
-    #[inline]
-    fn bitor(self, other: Self) -> Self {
-        Lines(self.0 | other.0)
-    }
-}
-
-/// The lines that differ.
-impl BitXor for Lines {
-    type Output = Self;
-
-    #[inline]
-    fn bitxor(self, other: Self) -> Self {
-        Lines(self.0 ^ other.0)
     }
 }
