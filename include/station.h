@@ -93,11 +93,11 @@ struct station_answer {
  * What they hold at the call does not matter. None of the three may overlap another.
  *
  * Comes back:
- * - A verdict, 20 to 37, of which ONLY 20 IS A PASS: the deciding tick, the step that holds it, and as count how many bytes were handed
- *   over, always fewer than STATION_BYTE_ROOM. For 20 the tick is the one at which the stream was finished; for 22 tick and step are the
+ * - A verdict, of which ONLY 20 IS A PASS: the deciding tick, the step that holds it, and as count how many bytes were handed over,
+ *   always fewer than STATION_BYTE_ROOM. For 20 the tick is the one at which the stream was finished; for 22 tick and step are the
  *   recording's total ticks and its number of steps. bytes begins with the count bytes; ledger begins with two ticks for each: when the
  *   sender let go of DATA and when the receiver took it. All further places keep what they held.
- * - A refusal, 1 to 9: tick and count are 0; step is the offending one for 6 and 7 and otherwise 0. No place of bytes or ledger changes.
+ * - A refusal of the judge: tick and count are 0; step is the offending one for 6 and 7 and otherwise 0. No place of bytes or ledger changes.
  */
 struct station_answer station_judge(const uint8_t *recording, size_t recording_length, uint8_t *bytes, size_t bytes_length,
                                     uint32_t *ledger, size_t ledger_length);
@@ -113,7 +113,7 @@ struct station_answer station_judge(const uint8_t *recording, size_t recording_l
  * - STATION_WRITTEN, 0: tick and step are 0, and the count is the recording's length, STATION_WRITTEN_LENGTH(bytes_length). The
  *   destination begins with the recording; all further places keep what they held. The judge answers 20 with these very bytes of it, or
  *   21, which is no pass, where there were none.
- * - A refusal, 10 or 11: tick, step and count are 0. No place of the destination changes.
+ * - A refusal of the writer: tick, step and count are 0. No place of the destination changes.
  */
 struct station_answer station_write(const uint8_t *bytes, size_t bytes_length, uint8_t *destination, size_t destination_length);
 

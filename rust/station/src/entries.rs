@@ -5,7 +5,7 @@ use crate::{Answer, Number};
 
 /// Judges one data transfer.
 ///
-/// `recording` is a whole recording file, and may be any bytes at all. A verdict, 20 to 37, leaves its
+/// `recording` is a whole recording file, and may be any bytes at all. A [verdict](Number::is_verdict) leaves its
 /// [`count`](Answer::count) bytes at the beginning of `bytes`, and for each of them two ticks at the beginning of
 /// `ledger`: where the sender let go of DATA, and where the receiver took it. All further places keep what they held, and
 /// a refusal changes nothing. `bytes` must have [`BYTE_ROOM`](crate::BYTE_ROOM) places or more and `ledger`
@@ -72,7 +72,7 @@ mod tests {
     fn an_answer_keeps_its_four_numbers() {
         for number in Number::ALL {
             let answer = named(crossed(number.as_u32()));
-            assert_eq!(answer.number, number);
+            assert_eq!(answer.number, *number);
             assert_eq!((answer.tick, answer.step, answer.count), (1, 2, 3));
             assert_eq!(answer.is_complete(), number.as_u32() == 20);
         }
@@ -80,15 +80,18 @@ mod tests {
 
     #[test]
     fn every_unknown_number_stops_the_program() {
-        for number in [12, 19, 38, 256 + 20, u32::MAX] {
-            let stopped = std::panic::catch_unwind(|| named(crossed(number)));
-            assert!(stopped.is_err(), "{number} passed");
+        let known = |value: &u32| Number::ALL.iter().any(|number| number.as_u32() == *value);
+        for value in (0..300).filter(|value| !known(value)) {
+            let stopped = std::panic::catch_unwind(|| named(crossed(value)));
+            assert!(stopped.is_err(), "{value} passed");
         }
     }
 
     #[test]
-    #[should_panic(expected = "answered with the number 38, which this crate does not know")]
+    #[should_panic(
+        expected = "answered with the number 4294967295, which this crate does not know"
+    )]
     fn an_unknown_number_is_named_in_the_message() {
-        let _ = named(crossed(38));
+        let _ = named(crossed(u32::MAX));
     }
 }

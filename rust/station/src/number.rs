@@ -2,157 +2,131 @@
 
 use std::fmt;
 
-/// What was found: document 01's numbers, "Numbers and what they leave".
-///
-/// Only [`Complete`](Number::Complete) is a pass.
-#[derive(Clone, Copy, Debug, PartialEq, Eq, Hash)]
-#[repr(u32)]
-pub enum Number {
-    /// The writer wrote the recording; there was no refusal. It says nothing of a drive.
-    Written = 0,
-    /// Refused: fewer than 16 bytes.
-    ShortFile = 1,
-    /// Refused: the version is not 1.
-    WrongVersion = 2,
-    /// Refused: more than 16,000 steps.
-    TooManySteps = 3,
-    /// Refused: the steps do not begin at 16.
-    WrongOffset = 4,
-    /// Refused: the length, by the header or truly, is not that of its steps.
-    WrongLength = 5,
-    /// Refused: a step of no ticks.
-    ZeroDuration = 6,
-    /// Refused: a step with bits that mean nothing.
-    StrayBits = 7,
-    /// Refused: the total is not the sum of the steps.
-    WrongTotal = 8,
-    /// Refused: too little memory was lent.
-    ShortBuffers = 9,
-    /// Refused by the writer: more than 799 bytes.
-    TooManyBytes = 10,
-    /// Refused by the writer: too little memory was lent.
-    ShortDestination = 11,
-    /// **A pass**: the stream was finished, and some sender and receiver that keep the rules could have made the
-    /// recording.
-    Complete = 20,
-    /// The sender did not go on within 512 ticks, and no byte was handed over: a time-out, not a pass.
-    EmptyStream = 21,
-    /// The recording ended before the stream was finished.
-    Cut = 22,
-    /// ATN was pulled.
-    Attention = 23,
-    /// Nobody took DATA in the first 256 ticks.
-    NoReceiver = 24,
-    /// CLK was not pulled at the first tick.
-    BadStart = 25,
-    /// A line moved when it was not its turn.
-    OutOfTurn = 26,
-    /// The receiver did not answer the end mark in time.
-    EndMarkNotAcknowledged = 27,
-    /// The receiver held its answer for fewer than 60 ticks.
-    AcknowledgementShort = 28,
-    /// The receiver held its answer for more than 150 ticks.
-    AcknowledgementLong = 29,
-    /// After that answer the sender pulled CLK later than 60 ticks.
-    LateClock = 30,
-    /// The sender did not go on within 512 ticks, after bytes were handed over.
-    SenderTimeOut = 31,
-    /// A bit was valid for fewer than 20 ticks.
-    ValidTimeShort = 32,
-    /// DATA moved with a bit's CLK release, or while the bit was valid.
-    DataMoved = 33,
-    /// A bit's set-up or valid time was longer than 200 ticks.
-    ClockStall = 34,
-    /// A byte was not taken within 1,000 ticks.
-    ReceiverTimeOut = 35,
-    /// The sender went on fewer than 100 ticks after the take.
-    Hurried = 36,
-    /// A line moved after the stream was finished.
-    MovedAfterTheEnd = 37,
+/// Makes the enum, and all that is known of a number, from one list: its variant, its value, its name and what it says.
+macro_rules! numbers {
+    (
+        $(#[$about:meta])* enum $Number:ident;
+        refusals { $($(#[$refusal_says:meta])* $Refusal:ident = $refusal:literal $refusal_name:literal,)* }
+        verdicts { $($(#[$verdict_says:meta])* $Verdict:ident = $verdict:literal $verdict_name:literal,)* }
+    ) => {
+        $(#[$about])*
+        #[derive(Clone, Copy, Debug, PartialEq, Eq, Hash)]
+        #[repr(u32)]
+        pub enum $Number {
+            $($(#[$refusal_says])* $Refusal = $refusal,)*
+            $($(#[$verdict_says])* $Verdict = $verdict,)*
+        }
+
+        impl $Number {
+            /// Every number.
+            pub const ALL: &'static [$Number] = &[$($Number::$Refusal,)* $($Number::$Verdict,)*];
+
+            /// Its name, as the commands print it: `short-file`, `complete`, `no-receiver`.
+            #[must_use]
+            pub const fn name(self) -> &'static str {
+                match self {
+                    $($Number::$Refusal => $refusal_name,)*
+                    $($Number::$Verdict => $verdict_name,)*
+                }
+            }
+
+            /// Whether it says something of a transfer: the file was judged. A verdict is no pass, but for
+            /// [`Complete`](Number::Complete).
+            #[must_use]
+            pub const fn is_verdict(self) -> bool {
+                matches!(self, $($Number::$Verdict)|*)
+            }
+
+            /// The number of that value, if there is one.
+            pub(crate) const fn from_u32(value: u32) -> Option<$Number> {
+                match value {
+                    $($refusal => Some($Number::$Refusal),)*
+                    $($verdict => Some($Number::$Verdict),)*
+                    _ => None,
+                }
+            }
+        }
+    };
+}
+
+numbers! {
+    /// What was found: document 01's numbers, "Numbers and what they leave".
+    ///
+    /// Only [`Complete`](Number::Complete) is a pass.
+    enum Number;
+    // And 0, which says that there was none.
+    refusals {
+        /// The writer wrote the recording; there was no refusal. It says nothing of a drive.
+        Written = 0 "written",
+        /// Refused: fewer than 16 bytes.
+        ShortFile = 1 "short-file",
+        /// Refused: the version is not 1.
+        WrongVersion = 2 "wrong-version",
+        /// Refused: more than 16,000 steps.
+        TooManySteps = 3 "too-many-steps",
+        /// Refused: the steps do not begin at 16.
+        WrongOffset = 4 "wrong-offset",
+        /// Refused: the length, by the header or truly, is not that of its steps.
+        WrongLength = 5 "wrong-length",
+        /// Refused: a step of no ticks.
+        ZeroDuration = 6 "zero-duration",
+        /// Refused: a step with bits that mean nothing.
+        StrayBits = 7 "stray-bits",
+        /// Refused: the total is not the sum of the steps.
+        WrongTotal = 8 "wrong-total",
+        /// Refused: too little memory was lent.
+        ShortBuffers = 9 "short-buffers",
+        /// Refused by the writer: more than 799 bytes.
+        TooManyBytes = 10 "too-many-bytes",
+        /// Refused by the writer: too little memory was lent.
+        ShortDestination = 11 "short-destination",
+    }
+    verdicts {
+        /// **A pass**: the stream was finished, and some sender and receiver that keep the rules could have made the
+        /// recording.
+        Complete = 20 "complete",
+        /// The sender did not go on within 512 ticks, and no byte was handed over: a time-out, not a pass.
+        EmptyStream = 21 "empty-stream",
+        /// The recording ended before the stream was finished.
+        Cut = 22 "cut",
+        /// ATN was pulled.
+        Attention = 23 "attention",
+        /// Nobody took DATA in the first 256 ticks.
+        NoReceiver = 24 "no-receiver",
+        /// CLK was not pulled at the first tick.
+        BadStart = 25 "bad-start",
+        /// A line moved when it was not its turn.
+        OutOfTurn = 26 "out-of-turn",
+        /// The receiver did not answer the end mark in time.
+        EndMarkNotAcknowledged = 27 "end-mark-not-acknowledged",
+        /// The receiver held its answer for fewer than 60 ticks.
+        AcknowledgementShort = 28 "acknowledgement-short",
+        /// The receiver held its answer for more than 150 ticks.
+        AcknowledgementLong = 29 "acknowledgement-long",
+        /// After that answer the sender pulled CLK later than 60 ticks.
+        LateClock = 30 "late-clock",
+        /// The sender did not go on within 512 ticks, after bytes were handed over.
+        SenderTimeOut = 31 "sender-time-out",
+        /// A bit was valid for fewer than 20 ticks.
+        ValidTimeShort = 32 "valid-time-short",
+        /// DATA moved with a bit's CLK release, or while the bit was valid.
+        DataMoved = 33 "data-moved",
+        /// A bit's set-up or valid time was longer than 200 ticks.
+        ClockStall = 34 "clock-stall",
+        /// A byte was not taken within 1,000 ticks.
+        ReceiverTimeOut = 35 "receiver-time-out",
+        /// The sender went on fewer than 100 ticks after the take.
+        Hurried = 36 "hurried",
+        /// A line moved after the stream was finished.
+        MovedAfterTheEnd = 37 "moved-after-the-end",
+    }
 }
 
 impl Number {
-    /// Every number, in rising order.
-    pub const ALL: [Number; 30] = [
-        Number::Written,
-        Number::ShortFile,
-        Number::WrongVersion,
-        Number::TooManySteps,
-        Number::WrongOffset,
-        Number::WrongLength,
-        Number::ZeroDuration,
-        Number::StrayBits,
-        Number::WrongTotal,
-        Number::ShortBuffers,
-        Number::TooManyBytes,
-        Number::ShortDestination,
-        Number::Complete,
-        Number::EmptyStream,
-        Number::Cut,
-        Number::Attention,
-        Number::NoReceiver,
-        Number::BadStart,
-        Number::OutOfTurn,
-        Number::EndMarkNotAcknowledged,
-        Number::AcknowledgementShort,
-        Number::AcknowledgementLong,
-        Number::LateClock,
-        Number::SenderTimeOut,
-        Number::ValidTimeShort,
-        Number::DataMoved,
-        Number::ClockStall,
-        Number::ReceiverTimeOut,
-        Number::Hurried,
-        Number::MovedAfterTheEnd,
-    ];
-
     /// The number itself, as document 01 has it.
     #[must_use]
     pub const fn as_u32(self) -> u32 {
         self as u32
-    }
-
-    /// Its name, as the commands print it: `short-file`, `complete`, `no-receiver`.
-    #[must_use]
-    pub const fn name(self) -> &'static str {
-        match self {
-            Number::Written => "written",
-            Number::ShortFile => "short-file",
-            Number::WrongVersion => "wrong-version",
-            Number::TooManySteps => "too-many-steps",
-            Number::WrongOffset => "wrong-offset",
-            Number::WrongLength => "wrong-length",
-            Number::ZeroDuration => "zero-duration",
-            Number::StrayBits => "stray-bits",
-            Number::WrongTotal => "wrong-total",
-            Number::ShortBuffers => "short-buffers",
-            Number::TooManyBytes => "too-many-bytes",
-            Number::ShortDestination => "short-destination",
-            Number::Complete => "complete",
-            Number::EmptyStream => "empty-stream",
-            Number::Cut => "cut",
-            Number::Attention => "attention",
-            Number::NoReceiver => "no-receiver",
-            Number::BadStart => "bad-start",
-            Number::OutOfTurn => "out-of-turn",
-            Number::EndMarkNotAcknowledged => "end-mark-not-acknowledged",
-            Number::AcknowledgementShort => "acknowledgement-short",
-            Number::AcknowledgementLong => "acknowledgement-long",
-            Number::LateClock => "late-clock",
-            Number::SenderTimeOut => "sender-time-out",
-            Number::ValidTimeShort => "valid-time-short",
-            Number::DataMoved => "data-moved",
-            Number::ClockStall => "clock-stall",
-            Number::ReceiverTimeOut => "receiver-time-out",
-            Number::Hurried => "hurried",
-            Number::MovedAfterTheEnd => "moved-after-the-end",
-        }
-    }
-
-    /// The number of that value, if there is one.
-    pub(crate) fn from_u32(value: u32) -> Option<Number> {
-        let place = Number::ALL.binary_search_by_key(&value, |number| number.as_u32());
-        place.ok().map(|place| Number::ALL[place])
     }
 }
 
@@ -167,35 +141,28 @@ impl fmt::Display for Number {
 mod tests {
     use super::*;
 
-    #[test]
-    fn the_numbers_are_0_to_11_and_20_to_37() {
-        let values: Vec<u32> = Number::ALL.map(Number::as_u32).to_vec();
-        let expected: Vec<u32> = (0..=11).chain(20..=37).collect();
-        assert_eq!(values, expected);
+    /// The rows of README's table of numbers. Those that are no verdicts begin with a word on refusing.
+    fn rows() -> Vec<(u32, String, bool)> {
+        let row = |line: &str| {
+            let mut cells = line.split('|').map(|cell| cell.trim().trim_matches('*'));
+            let value = cells.nth(1)?.parse().ok()?;
+            let (name, says) = (cells.next()?.to_string(), cells.next()?);
+            let verdict = !says.starts_with("refused") && !says.starts_with("no refusal");
+            Some((value, name, verdict))
+        };
+        let mut rows: Vec<_> = include_str!("../../../README.md")
+            .lines()
+            .filter_map(row)
+            .collect();
+        rows.sort();
+        rows
     }
 
     #[test]
-    fn every_number_has_its_own_name() {
-        for (place, number) in Number::ALL.into_iter().enumerate() {
-            assert!(!number.name().is_empty());
-            assert_eq!(number.to_string(), number.name());
-            for later in &Number::ALL[place + 1..] {
-                assert_ne!(number.name(), later.name());
-            }
-        }
-    }
-
-    #[test]
-    fn the_names_are_the_readme_table() {
-        let readme = include_str!("../../../README.md");
-        for number in Number::ALL {
-            let plain = format!("\n| {} | {} | ", number.as_u32(), number);
-            let bold = format!("\n| **{}** | {} | ", number.as_u32(), number);
-            assert!(
-                readme.contains(&plain) || readme.contains(&bold),
-                "README has no row for {} {number}",
-                number.as_u32()
-            );
-        }
+    fn the_numbers_are_those_of_the_readme() {
+        let told = |number: &Number| (number.as_u32(), number.to_string(), number.is_verdict());
+        let mut all: Vec<_> = Number::ALL.iter().map(told).collect();
+        all.sort();
+        assert_eq!(all, rows());
     }
 }

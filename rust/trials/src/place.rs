@@ -17,7 +17,7 @@ struct Found {
 /// "A verdict carries the deciding tick and the step holding it (20: the finish tick; 22: total ticks and n)." "Every
 /// refusal has tick 0 and count 0, its step is the offending one for 6 and 7 and otherwise 0".
 pub fn check_place(answer: Answer, file: &[u8]) -> Result<(), String> {
-    if answer.number.as_u32() < 20 {
+    if !answer.number.is_verdict() {
         return check_refusal(answer);
     }
     let found = find(answer, file);

@@ -50,7 +50,7 @@ impl Trials {
             case: Case::new(),
             judge: JudgeTrial::new(),
             write: WriteTrial::new(),
-            tally: Tally::new(),
+            tally: Tally::default(),
             print_all,
         }
     }
