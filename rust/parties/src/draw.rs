@@ -40,24 +40,25 @@ pub const DENSE: Style = Style {
     always_carried: true,
 };
 
-/// Draws a transfer of `count` bytes in place of what `transfer` held. It keeps every rule.
-pub fn transfer(random: &mut Random, count: usize, style: Style, transfer: &mut Transfer) {
-    transfer.first_take = span(random, limits::FIRST_TAKE, style);
-    transfer.bytes.clear();
-    for place in 0..count {
-        let first = place == 0;
-        let last = place + 1 == count;
-        transfer.bytes.push(byte(random, first, last, style));
+/// Draws a transfer of `count` bytes. It keeps every rule.
+#[must_use]
+pub fn transfer(random: &mut Random, count: usize, style: Style) -> Transfer {
+    let first_take = span(random, limits::FIRST_TAKE, style);
+    let bytes = (0..count).map(|place| byte(random, place == 0, place + 1 == count, style));
+    // The fields are drawn in this order.
+    Transfer {
+        first_take,
+        bytes: bytes.collect(),
+        acknowledgement: span(random, limits::ACKNOWLEDGEMENT, style),
+        after_acknowledgement: span(random, limits::AFTER_ACKNOWLEDGEMENT, style),
+        last_hold: span(random, limits::LATER_HOLD, style),
+        last_ready_to_send: span(random, limits::READY_TO_SEND, style),
+        silence: span(random, limits::SILENCE, style),
     }
-    transfer.acknowledgement = span(random, limits::ACKNOWLEDGEMENT, style);
-    transfer.after_acknowledgement = span(random, limits::AFTER_ACKNOWLEDGEMENT, style);
-    transfer.last_hold = span(random, limits::LATER_HOLD, style);
-    transfer.last_ready_to_send = span(random, limits::READY_TO_SEND, style);
-    transfer.silence = span(random, limits::SILENCE, style);
 }
 
 /// A number of ticks within a window. Where there is no limit, an end is once in a while longer than any step.
-pub fn span(random: &mut Random, window: Window, style: Style) -> u32 {
+fn span(random: &mut Random, window: Window, style: Style) -> u32 {
     let most = match window.most {
         NO_LIMIT if random.one_in(20_000) => window.least + 70_000,
         NO_LIMIT => window.least + 300,

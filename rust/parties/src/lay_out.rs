@@ -3,14 +3,11 @@
 use crate::{Byte, Pair, Transfer};
 
 impl Transfer {
-    /// Lays the spans out, in place of what `pair` and `ledger` held: the three tracks, and the pair's own two ticks for
-    /// each byte, "the sender's letting go of DATA after bit 8 (where that bit is zero, it stands as offset 0) and the
-    /// receiver's take".
-    pub fn lay_out(&self, pair: &mut Pair, ledger: &mut Vec<u32>) {
-        pair.clock.clear();
-        pair.sender_data.clear();
-        pair.receiver_data.clear();
-        ledger.clear();
+    /// Lays the spans out: the three tracks, and the pair's own two ticks for each byte, "the sender's letting go of DATA
+    /// after bit 8 (where that bit is zero, it stands as offset 0) and the receiver's take".
+    #[must_use]
+    pub fn lay_out(&self) -> (Pair, Vec<u32>) {
+        let (mut pair, mut ledger) = (Pair::default(), Vec::new());
         // Where the latest CLK pull and the receiver's latest take are.
         let mut clock = 0;
         let mut take = self.first_take;
@@ -25,7 +22,7 @@ impl Transfer {
                 pair.receiver_data.add(begin, end);
                 begin = end + self.after_acknowledgement;
             }
-            clock = lay_out_bits(byte, begin, pair);
+            clock = lay_out_bits(byte, begin, &mut pair);
             pair.sender_data.add(clock, clock + byte.keep);
             take = clock + byte.take;
             ledger.extend([clock + byte.keep, take]);
@@ -35,12 +32,13 @@ impl Transfer {
         let let_go = release + self.last_ready_to_send;
         pair.receiver_data.add(take, let_go);
         pair.total = let_go + self.silence;
+        (pair, ledger)
     }
 
-    /// The string of its bytes, in place of what `string` held.
-    pub fn put_string(&self, string: &mut Vec<u8>) {
-        string.clear();
-        string.extend(self.bytes.iter().map(|byte| byte.value));
+    /// The string of its bytes.
+    #[must_use]
+    pub fn string(&self) -> Vec<u8> {
+        self.bytes.iter().map(|byte| byte.value).collect()
     }
 }
 

@@ -7,10 +7,14 @@
 //!   recording judged complete must pass.
 //! - [`Transfer`] is a pair as its spans, and [`draw`](draw::transfer) chooses the spans at random within each rule. It is
 //!   what a judge must find complete.
+//!
+//! For the second it has [`Random`], [`Step`] and [`file_of`]. The crates beside it use these: there is no other maker of
+//! recordings and no other generator.
 
 #![forbid(unsafe_code)]
 #![deny(missing_docs)]
 
+mod card;
 mod check;
 pub mod draw;
 mod lay_out;
@@ -25,12 +29,13 @@ mod timetable;
 mod track;
 mod transfer;
 
+pub use card::Card;
 pub use check::{check_given, check_shown_pair};
 pub use lines::Lines;
 pub use pair::Pair;
 pub use random::Random;
 pub use rules::check_pair;
 pub use shown::shown_pair;
-pub use steps::{put_file, Step};
+pub use steps::{file_of, steps_of, ticks_of, Step, LONGEST, MOST_STEPS};
 pub use track::{Pull, Track};
 pub use transfer::{Bit, Byte, Transfer};

@@ -1,6 +1,6 @@
 //! A pair: a sender track and a receiver track.
 
-use crate::{Step, Track};
+use crate::{Step, Track, LONGEST};
 
 /// "A *pair* for a string of one or more bytes is a sender track (CLK and DATA pulls at each tick) and a receiver track
 /// (DATA pulls)". Whether it keeps the rules is another matter: [`check_pair`](crate::check_pair) says.
@@ -20,14 +20,13 @@ pub struct Pair {
 const CLOCK: u8 = 2;
 /// The DATA bit of a step's lines.
 const DATA: u8 = 4;
-/// The longest step.
-const LONGEST: u32 = 65_535;
 
 impl Pair {
     /// The recording that the pair gives, as few steps as there can be: "ATN is released, CLK is the sender's and DATA is
     /// pulled exactly when either pulls".
-    pub fn steps(&self, steps: &mut Vec<Step>) {
-        steps.clear();
+    #[must_use]
+    pub fn steps(&self) -> Vec<Step> {
+        let mut steps = Vec::new();
         let mut tracks = [
             Cursor::new(&self.clock, CLOCK),
             Cursor::new(&self.sender_data, DATA),
@@ -42,27 +41,26 @@ impl Pair {
                 lines |= pulled;
                 until = until.min(change);
             }
-            append(steps, until - tick, lines);
+            append(&mut steps, until - tick, lines);
             tick = until;
         }
+        steps
     }
 }
 
 /// Adds that many ticks of these lines, to the latest step where it shows the same and has room.
 fn append(steps: &mut Vec<Step>, ticks: u32, lines: u8) {
+    let most = u32::from(LONGEST);
     let mut left = ticks;
     if let Some(latest) = steps.last_mut().filter(|latest| latest.lines == lines) {
-        let more = left.min(LONGEST - u32::from(latest.duration));
+        let more = left.min(most - u32::from(latest.duration));
         latest.duration += more as u16;
         left -= more;
     }
     while left > 0 {
-        let duration = left.min(LONGEST);
-        steps.push(Step {
-            duration: duration as u16,
-            lines,
-        });
-        left -= duration;
+        let duration = left.min(most) as u16;
+        steps.push(Step { duration, lines });
+        left -= u32::from(duration);
     }
 }
 

@@ -1,5 +1,14 @@
 //! Steps, and the file that holds them: document 01, "Recording layout".
 
+/// The most steps that a recording may have.
+pub const MOST_STEPS: usize = 16_000;
+
+/// The longest duration of a step.
+pub const LONGEST: u16 = 65_535;
+
+/// The header's length.
+const HEADER: usize = 16;
+
 /// One step of a recording.
 #[derive(Clone, Copy, Debug, PartialEq, Eq)]
 pub struct Step {
@@ -9,19 +18,35 @@ pub struct Step {
     pub lines: u8,
 }
 
-/// Puts down the recording of these steps, its header fields right, in place of what `file` held. A step is put down as it
-/// is, also where no recording may have it.
-pub fn put_file(steps: &[Step], file: &mut Vec<u8>) {
-    let total: u32 = steps.iter().map(|step| u32::from(step.duration)).sum();
-    let length = 16 + 4 * steps.len() as u32;
-    file.clear();
+/// How many ticks the steps have.
+#[must_use]
+pub fn ticks_of(steps: &[Step]) -> u32 {
+    steps.iter().map(|step| u32::from(step.duration)).sum()
+}
+
+/// The recording of these steps, its header fields right. A step is put down as it is, also where no recording may have it.
+#[must_use]
+pub fn file_of(steps: &[Step]) -> Vec<u8> {
+    let length = HEADER + 4 * steps.len();
+    let mut file = Vec::with_capacity(length);
     file.extend(1u16.to_le_bytes());
     file.extend((steps.len() as u16).to_le_bytes());
-    file.extend(16u32.to_le_bytes());
-    file.extend(total.to_le_bytes());
-    file.extend(length.to_le_bytes());
+    file.extend((HEADER as u32).to_le_bytes());
+    file.extend(ticks_of(steps).to_le_bytes());
+    file.extend((length as u32).to_le_bytes());
     for step in steps {
         let [low, high] = step.duration.to_le_bytes();
         file.extend([low, high, step.lines, 0]);
     }
+    file
+}
+
+/// The other way round: the steps of a recording of good form.
+#[must_use]
+pub fn steps_of(file: &[u8]) -> Vec<Step> {
+    let step = |bytes: &[u8]| Step {
+        duration: u16::from_le_bytes([bytes[0], bytes[1]]),
+        lines: bytes[2],
+    };
+    file[HEADER..].chunks_exact(4).map(step).collect()
 }

@@ -23,11 +23,6 @@ impl Track {
         Track::default()
     }
 
-    /// Forgets every pull.
-    pub fn clear(&mut self) {
-        self.pulls.clear();
-    }
-
     /// Adds a pull that begins no earlier than the latest one does. Where the two meet or overlap they become one; a pull
     /// of no ticks changes nothing.
     ///

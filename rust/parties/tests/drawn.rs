@@ -1,24 +1,13 @@
 //! Drawn pairs keep every rule, give their recording, and have the ticks that they say.
 
 use parties::draw::{self, Style, BRISK, DENSE, WIDE};
-use parties::{check_given, check_pair, put_file, Lines, Pair, Random, Transfer};
+use parties::{check_given, check_pair, file_of, Lines, Pair, Random};
 
 /// One drawn transfer, laid out.
 fn drawn(random: &mut Random, count: usize, style: Style) -> (Pair, Vec<u8>, Vec<u32>) {
-    let mut transfer = Transfer::default();
-    draw::transfer(random, count, style, &mut transfer);
-    let (mut pair, mut ledger, mut string) = (Pair::default(), Vec::new(), Vec::new());
-    transfer.lay_out(&mut pair, &mut ledger);
-    transfer.put_string(&mut string);
-    (pair, string, ledger)
-}
-
-/// The recording that a pair gives.
-fn recording(pair: &Pair) -> Vec<u8> {
-    let (mut steps, mut file) = (Vec::new(), Vec::new());
-    pair.steps(&mut steps);
-    put_file(&steps, &mut file);
-    file
+    let transfer = draw::transfer(random, count, style);
+    let (pair, ledger) = transfer.lay_out();
+    (pair, transfer.string(), ledger)
 }
 
 #[test]
@@ -31,7 +20,7 @@ fn a_drawn_pair_keeps_every_rule_and_gives_its_recording() {
         assert_eq!(string.len(), count);
         assert_eq!(ledger.len(), 2 * count);
         check_pair(&pair, &string).unwrap();
-        let lines = Lines::read(&recording(&pair)).unwrap();
+        let lines = Lines::read(&file_of(&pair.steps())).unwrap();
         check_given(&pair, &lines).unwrap();
     }
 }
@@ -57,10 +46,8 @@ fn the_densest_transfer_has_841_bytes() {
     let mut random = Random::new(9);
     let (pair, string, _) = drawn(&mut random, 841, DENSE);
     check_pair(&pair, &string).unwrap();
-    let mut steps = Vec::new();
-    pair.steps(&mut steps);
     // Nineteen for each byte, five for the end mark and the end, and one more where the receiver takes late.
-    assert!((19 * 841 + 5..=16_000).contains(&steps.len()));
+    assert!((19 * 841 + 5..=16_000).contains(&pair.steps().len()));
 }
 
 #[test]

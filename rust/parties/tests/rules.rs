@@ -1,43 +1,23 @@
 //! Each rule of the two parties broken once, and kept at both ends of its window.
 
-use parties::{check_pair, Bit, Byte, Pair, Track, Transfer};
+use parties::{check_pair, Card, Pair, Track, Transfer};
 
-/// A byte with spans well inside their windows.
-fn byte(value: u8, ready_for_data: u32) -> Byte {
-    Byte {
-        value,
-        hold: 200,
-        ready_to_send: 50,
-        ready_for_data,
-        bits: [Bit {
-            set_up: 70,
-            valid: 60,
-            moves: [0; 3],
-        }; 8],
-        keep: if value >= 0x80 { 40 } else { 0 },
-        take: 60,
-    }
-}
-
-/// A transfer of three bytes: bit 8 one, then zero, then one.
-fn transfer() -> Transfer {
-    Transfer {
-        first_take: 10,
-        bytes: vec![byte(0xC1, 60), byte(0x42, 60), byte(0x83, 220)],
-        acknowledgement: 80,
-        after_acknowledgement: 40,
-        last_hold: 200,
-        last_ready_to_send: 50,
-        silence: 100,
-    }
-}
-
+/// Three bytes: bit 8 one, then zero, then one.
 const STRING: [u8; 3] = [0xC1, 0x42, 0x83];
 
+/// A transfer of them with spans well inside their windows.
+fn transfer() -> Transfer {
+    let mut transfer = Card::WRITTEN.transfer(&STRING);
+    transfer.first_take = 10;
+    for byte in &mut transfer.bytes {
+        byte.take = 60;
+        byte.keep = if byte.value >= 0x80 { 40 } else { 0 };
+    }
+    transfer
+}
+
 fn laid_out(transfer: &Transfer) -> Pair {
-    let mut pair = Pair::default();
-    transfer.lay_out(&mut pair, &mut Vec::new());
-    pair
+    transfer.lay_out().0
 }
 
 /// What `check_pair` says once `change` has changed the transfer.
@@ -77,9 +57,7 @@ fn start() {
         words,
     );
     let mut late = laid_out(&transfer());
-    let pulls = late.clock.clone();
-    late.clock.clear();
-    for pull in pulls.pulls() {
+    for pull in std::mem::take(&mut late.clock).pulls() {
         late.clock.add(pull.from.max(1), pull.until);
     }
     let error = check_pair(&late, &STRING).unwrap_err();
@@ -229,7 +207,7 @@ fn the_receiver_keeps_off_data_in_the_bits() {
     let base = laid_out(&transfer());
     let handover = base.clock.pulls()[9].from;
     let mut pair = base.clone();
-    pair.receiver_data.clear();
+    pair.receiver_data = Track::new();
     for pull in base.receiver_data.pulls() {
         // The take of the first byte comes in the last valid tick of its bit 8.
         let early = pull.from == handover + 60;
@@ -309,7 +287,6 @@ fn the_sender_keeps_off_data_outside_its_bits() {
         let until = clock.get(9 * byte + 1).map_or(base.total, |pull| pull.from);
         for tick in begin..until {
             let mut pair = base.clone();
-            pair.sender_data.clear();
             let mut extra = Track::new();
             extra.add(tick, tick + 1);
             pair.sender_data = base.sender_data.either(&extra);

@@ -1,41 +1,32 @@
 //! The shown pair of S1 and of a carried handover, and what is found when ledger, string or recording are tampered with.
 
-use parties::{check_shown_pair, put_file, Step};
-
-/// Steps written as document 01 writes them: duration:lines.
-fn steps(words: &str) -> Vec<Step> {
-    let step = |word: &str| {
-        let (duration, lines) = word.split_once(':').unwrap();
-        Step {
-            duration: duration.parse().unwrap(),
-            lines: lines.parse().unwrap(),
-        }
-    };
-    words.split_whitespace().map(step).collect()
-}
+use parties::{check_shown_pair, file_of, steps_of, ticks_of, Card, Step};
 
 /// Document 01, "Sample recordings": S1, of the byte 0x41.
+const S1: &[u8] = include_bytes!("../../../samples/s1.rec");
+/// The byte 0x80, its handover carried.
+const CARRIED: &[u8] = include_bytes!("../../../samples/carried-101.rec");
+
 fn s1() -> Vec<Step> {
-    steps(
-        "200:6 50:4 220:0 80:4 40:0 70:6 60:4 70:2 60:0 70:2 60:0 70:2 60:0 70:2 60:0 70:2 60:0 \
-         70:6 60:4 70:2 60:0 30:2 200:6 50:4 100:0",
-    )
+    steps_of(S1)
 }
 
-/// The byte 0x80, its handover carried, with the last hold of that duration.
+/// The carried handover with the last hold of that duration.
 fn carried(hold: u16) -> Vec<Step> {
-    let mut steps = steps(
-        "200:6 50:4 220:0 80:4 40:0 70:2 60:0 70:2 60:0 70:2 60:0 70:2 60:0 70:2 60:0 70:2 60:0 \
-         70:2 60:0 70:6 60:4 101:6 50:4 100:0",
-    );
+    let mut steps = steps_of(CARRIED);
     steps[21].duration = hold;
     steps
 }
 
 fn checked(steps: &[Step], string: &[u8], ledger: &[u32]) -> Result<(), String> {
-    let mut file = Vec::new();
-    put_file(steps, &mut file);
-    check_shown_pair(&file, string, ledger)
+    check_shown_pair(&file_of(steps), string, ledger)
+}
+
+#[test]
+fn recordings_are_made_as_the_samples_are() {
+    assert_eq!(file_of(&s1()), S1);
+    let transfer = Card::WRITTEN.transfer(&[0x41]);
+    assert_eq!(transfer.lay_out().0.steps(), s1());
 }
 
 #[test]
@@ -97,11 +88,8 @@ fn another_string_is_found() {
 fn with_duration(place: usize, duration: u16) -> Result<(), String> {
     let mut steps = s1();
     steps[place].duration = duration;
-    let ticks = |count: usize| -> u32 {
-        let durations = steps[..count].iter().map(|step| u32::from(step.duration));
-        durations.sum()
-    };
-    checked(&steps, &[0x41], &[ticks(21), ticks(22)])
+    let ledger = [ticks_of(&steps[..21]), ticks_of(&steps[..22])];
+    checked(&steps, &[0x41], &ledger)
 }
 
 #[test]
@@ -149,8 +137,6 @@ fn every_line_of_every_step_matters() {
 
 #[test]
 fn a_recording_of_bad_form_is_found() {
-    let mut file = Vec::new();
-    put_file(&s1(), &mut file);
     for (place, value) in [
         (0, 2),
         (3, 0x80),
@@ -161,11 +147,11 @@ fn a_recording_of_bad_form_is_found() {
         (18, 0x16),
         (19, 1),
     ] {
-        let mut wrong = file.clone();
+        let mut wrong = S1.to_vec();
         wrong[place] = value;
         let error = check_shown_pair(&wrong, &[0x41], &[1630, 1660]).unwrap_err();
         assert!(error.contains("not of good form"), "{error}");
     }
-    assert!(check_shown_pair(&file[..112], &[0x41], &[1630, 1660]).is_err());
+    assert!(check_shown_pair(&S1[..112], &[0x41], &[1630, 1660]).is_err());
     assert!(check_shown_pair(&[], &[0x41], &[1630, 1660]).is_err());
 }

@@ -1,11 +1,12 @@
-//! One case: what a class draws, in memory that is used again for the next.
+//! One case: what a class draws.
 
-use parties::{check_pair, put_file, Pair, Random, Step, Transfer};
+use parties::{check_pair, file_of, ticks_of, Pair, Random, Step, Transfer};
 
 /// What must come of a case, besides both judges agreeing.
-#[derive(Clone, Copy, Debug, PartialEq, Eq)]
+#[derive(Clone, Copy, Debug, Default, PartialEq, Eq)]
 pub enum Expected {
     /// Nothing more.
+    #[default]
     Nothing,
     /// It is complete with the case's string.
     Complete,
@@ -15,7 +16,8 @@ pub enum Expected {
     Empty,
 }
 
-/// One case.
+/// One case; a default one is empty.
+#[derive(Default)]
 pub struct Case {
     /// A recording's steps, before they are put into a file.
     pub steps: Vec<Step>,
@@ -33,41 +35,14 @@ pub struct Case {
     pub transfer: Transfer,
     /// Its tracks.
     pub pair: Pair,
-    /// Steps in the making.
-    pub scratch: Vec<Step>,
 }
 
 impl Case {
-    /// An empty one.
-    pub fn new() -> Case {
-        Case {
-            steps: Vec::new(),
-            file: Vec::new(),
-            expected: Expected::Nothing,
-            string: Vec::new(),
-            ticks: Vec::new(),
-            destination: 0,
-            transfer: Transfer::default(),
-            pair: Pair::default(),
-            scratch: Vec::new(),
-        }
-    }
-
-    /// Forgets the case before. The memory stays.
-    pub fn clear(&mut self) {
-        self.steps.clear();
-        self.file.clear();
-        self.expected = Expected::Nothing;
-        self.string.clear();
-        self.ticks.clear();
-        self.destination = 0;
-    }
-
     /// Makes the steps of the transfer, with its string and ticks.
     pub fn lay_out(&mut self) {
-        self.transfer.lay_out(&mut self.pair, &mut self.ticks);
-        self.transfer.put_string(&mut self.string);
-        self.pair.steps(&mut self.steps);
+        (self.pair, self.ticks) = self.transfer.lay_out();
+        self.string = self.transfer.string();
+        self.steps = self.pair.steps();
     }
 
     /// Expects what the parties' rules say of the transfer: if it keeps them all, it is complete.
@@ -79,16 +54,11 @@ impl Case {
 
     /// Puts the steps into the file, its header right.
     pub fn put_file(&mut self) {
-        put_file(&self.steps, &mut self.file);
-    }
-
-    /// How many ticks the steps have.
-    pub fn total(&self) -> u32 {
-        self.steps.iter().map(|step| u32::from(step.duration)).sum()
+        self.file = file_of(&self.steps);
     }
 
     /// A tick of the steps; 0 if there is none.
     pub fn tick(&self, random: &mut Random) -> u32 {
-        random.below(self.total())
+        random.below(ticks_of(&self.steps))
     }
 }

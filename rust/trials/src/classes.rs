@@ -89,12 +89,10 @@ mod tests {
 
     #[test]
     fn a_seed_gives_the_same_case_again() {
-        let (mut once, mut again) = (Case::new(), Case::new());
         for class in &CLASSES {
             for seed in 0..20 {
-                once.clear();
+                let (mut once, mut again) = (Case::default(), Case::default());
                 (class.draw)(&mut Random::new(seed), &mut once);
-                again.clear();
                 (class.draw)(&mut Random::new(seed), &mut again);
                 assert_eq!(once.file, again.file, "{} {seed}", class.name);
                 assert_eq!(once.string, again.string, "{} {seed}", class.name);

@@ -1,27 +1,21 @@
 //! Edits of a list of steps.
 
 use crate::case::Case;
-use parties::{Random, Step};
-
-/// The most steps that a recording may have.
-pub const MOST_STEPS: usize = 16_000;
+use parties::{ticks_of, Random, Step, MOST_STEPS};
 
 impl Case {
     /// Splits steps into neighbours that show the same lines, once in so many steps, as far as there is room.
     pub fn split_steps(&mut self, random: &mut Random, one_in: u32) {
         let mut room = MOST_STEPS.saturating_sub(self.steps.len());
-        self.scratch.clear();
-        for step in &self.steps {
-            let mut rest = *step;
+        for mut rest in std::mem::take(&mut self.steps) {
             while room > 0 && rest.duration > 1 && random.one_in(one_in) {
                 let duration = random.between(1, u32::from(rest.duration) - 1) as u16;
-                self.scratch.push(Step { duration, ..rest });
+                self.steps.push(Step { duration, ..rest });
                 rest.duration -= duration;
                 room -= 1;
             }
-            self.scratch.push(rest);
+            self.steps.push(rest);
         }
-        std::mem::swap(&mut self.steps, &mut self.scratch);
     }
 
     /// Sets SRQ: nowhere, everywhere or at random.
@@ -39,22 +33,20 @@ impl Case {
 
     /// Turns the lines of `mask` over at every tick from `from` until `until`.
     pub fn turn_over(&mut self, from: u32, until: u32, mask: u8) {
-        self.scratch.clear();
         let mut tick = 0;
-        for step in &self.steps {
+        for step in std::mem::take(&mut self.steps) {
             let end = tick + u32::from(step.duration);
             let first = from.clamp(tick, end);
             let last = until.clamp(first, end);
             let parts = [(first - tick, 0), (last - first, mask), (end - last, 0)];
             for (ticks, turned) in parts.into_iter().filter(|part| part.0 > 0) {
-                self.scratch.push(Step {
+                self.steps.push(Step {
                     duration: ticks as u16,
                     lines: step.lines ^ turned,
                 });
             }
             tick = end;
         }
-        std::mem::swap(&mut self.steps, &mut self.scratch);
     }
 
     /// Leaves out every tick from `tick` on.
@@ -77,8 +69,7 @@ impl Case {
     /// A tick at which a step begins, or one tick before or after it: where a rule's limit is likely to lie.
     pub fn tick_by_a_change(&self, random: &mut Random) -> u32 {
         let place = random.place(self.steps.len());
-        let steps = self.steps.iter().take(place);
-        let begin: u32 = steps.map(|step| u32::from(step.duration)).sum();
+        let begin = ticks_of(&self.steps[..place]);
         (begin + random.below(3)).saturating_sub(1)
     }
 }
@@ -88,7 +79,7 @@ mod tests {
     use super::*;
 
     fn case() -> Case {
-        let mut case = Case::new();
+        let mut case = Case::default();
         for (duration, lines) in [(3, 2), (1, 6), (5, 0)] {
             case.steps.push(Step { duration, lines });
         }
@@ -120,7 +111,7 @@ mod tests {
                     let inside = (from..until).contains(&(tick as u32));
                     assert_eq!(ticks(&turned)[tick], if inside { lines ^ 5 } else { lines });
                 }
-                assert_eq!(turned.total(), 9);
+                assert_eq!(ticks_of(&turned.steps), 9);
             }
             let mut cut = case();
             cut.cut_at(from);

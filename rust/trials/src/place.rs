@@ -1,18 +1,7 @@
 //! The place that an answer names, held to document 01, "Numbers and what they leave", and to no judge.
 
+use parties::{steps_of, ticks_of};
 use station::{Answer, Number};
-
-/// What a recording's steps say of an answer's place.
-struct Found {
-    /// How many steps there are.
-    steps: u32,
-    /// How many ticks there are.
-    total: u32,
-    /// The first tick from which on neither CLK nor DATA is pulled.
-    silent_from: u32,
-    /// Whether the answer's step holds its tick.
-    held: bool,
-}
 
 /// "A verdict carries the deciding tick and the step holding it (20: the finish tick; 22: total ticks and n)." "Every
 /// refusal has tick 0 and count 0, its step is the offending one for 6 and 7 and otherwise 0".
@@ -20,12 +9,18 @@ pub fn check_place(answer: Answer, file: &[u8]) -> Result<(), String> {
     if !answer.number.is_verdict() {
         return check_refusal(answer);
     }
-    let found = find(answer, file);
+    let steps = steps_of(file);
+    let begin = |place: usize| ticks_of(&steps[..place]);
+    let step = answer.step as usize;
+    let held = step < steps.len() && (begin(step)..begin(step + 1)).contains(&answer.tick);
     let right = match answer.number {
-        Number::Cut => (answer.tick, answer.step) == (found.total, found.steps),
-        // Its finish tick is the first of the end, where nothing is pulled any more.
-        Number::Complete => found.held && answer.tick == found.silent_from,
-        _ => found.held,
+        Number::Cut => (answer.tick, step) == (ticks_of(&steps), steps.len()),
+        // Its finish tick is the first of the end, where neither CLK nor DATA is pulled any more.
+        Number::Complete => {
+            let pulled = steps.iter().rposition(|step| step.lines & 6 != 0);
+            held && answer.tick == begin(pulled.map_or(0, |last| last + 1))
+        }
+        _ => held,
     };
     if right {
         Ok(())
@@ -43,45 +38,21 @@ fn check_refusal(answer: Answer) -> Result<(), String> {
     }
 }
 
-/// Goes through the steps of a recording of good form.
-fn find(answer: Answer, file: &[u8]) -> Found {
-    let mut found = Found {
-        steps: 0,
-        total: 0,
-        silent_from: 0,
-        held: false,
-    };
-    for step in file[16..].chunks_exact(4) {
-        let end = found.total + u32::from(u16::from_le_bytes([step[0], step[1]]));
-        if found.steps == answer.step {
-            found.held = (found.total..end).contains(&answer.tick);
-        }
-        if step[2] & 6 != 0 {
-            found.silent_from = end;
-        }
-        found.steps += 1;
-        found.total = end;
-    }
-    found
-}
-
 #[cfg(test)]
 mod tests {
     use super::*;
-    use parties::{put_file, Step};
+    use parties::{file_of, Step};
 
     fn checked(number: Number, tick: u32, step: u32, count: u32) -> bool {
         let lines = [(3, 6), (2, 4), (4, 0), (1, 0)];
         let steps = lines.map(|(duration, lines)| Step { duration, lines });
-        let mut file = Vec::new();
-        put_file(&steps, &mut file);
         let answer = Answer {
             number,
             tick,
             step,
             count,
         };
-        check_place(answer, &file).is_ok()
+        check_place(answer, &file_of(&steps)).is_ok()
     }
 
     #[test]

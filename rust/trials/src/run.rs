@@ -12,9 +12,8 @@ use parties::Random;
 /// How many differences are printed; the rest are only counted.
 const PRINTED: u64 = 20;
 
-/// The trials' memory.
+/// The trials, with what came of them so far.
 struct Trials {
-    case: Case,
     judge: JudgeTrial,
     write: WriteTrial,
     tally: Tally,
@@ -47,7 +46,6 @@ pub fn run_one(seed: u64, class: usize) -> bool {
 impl Trials {
     fn new(print_all: bool) -> Trials {
         Trials {
-            case: Case::new(),
             judge: JudgeTrial::new(),
             write: WriteTrial::new(),
             tally: Tally::default(),
@@ -59,28 +57,28 @@ impl Trials {
     fn try_case(&mut self, name: Name) {
         let class = &CLASSES[name.class];
         let mut random = Random::new(name.seed);
-        self.case.clear();
-        (class.draw)(&mut random, &mut self.case);
+        let mut case = Case::default();
+        (class.draw)(&mut random, &mut case);
         self.tally.count_case(name.class);
         let mut different = false;
         if class.kind == Kind::Writing {
-            let outcome = self.write.run(&mut random, &mut self.case);
+            let outcome = self.write.run(&mut random, &mut case);
             self.tally.count_written(outcome.answer.number);
-            different = self.look_at(name, "written", &outcome);
+            different = self.look_at(name, &case, "written", &outcome);
         }
-        if class.kind == Kind::Recording || !self.case.file.is_empty() {
-            let outcome = self.judge.run(&mut random, &self.case);
+        if class.kind == Kind::Recording || !case.file.is_empty() {
+            let outcome = self.judge.run(&mut random, &case);
             self.tally.count_judged(outcome.answer.number);
-            different |= self.look_at(name, "judged", &outcome);
+            different |= self.look_at(name, &case, "judged", &outcome);
         }
         self.tally.differences += u64::from(different);
     }
 
     /// Whether a case is different; if so it is printed, unless many were before it.
-    fn look_at(&self, name: Name, what: &str, outcome: &Outcome) -> bool {
+    fn look_at(&self, name: Name, case: &Case, what: &str, outcome: &Outcome) -> bool {
         let different = outcome.wrong.is_err();
         if self.print_all || different && self.tally.differences < PRINTED {
-            report::print(name, &self.case, what, outcome);
+            report::print(name, case, what, outcome);
         }
         different
     }

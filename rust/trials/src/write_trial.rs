@@ -39,9 +39,7 @@ impl WriteTrial {
         let other = by_steps::write(&case.string, self.other_destination.part_mut(to));
         let wrong = same_answer(answer, &other).and_then(|()| self.check(answer, from, to, case));
         if answer.number == Number::Written && wrong.is_ok() {
-            case.file.clear();
-            case.file
-                .extend(&self.destination.part(to)[..answer.count as usize]);
+            case.file = self.destination.part(to)[..answer.count as usize].to_vec();
             case.expected = if case.string.is_empty() {
                 Expected::Empty
             } else {

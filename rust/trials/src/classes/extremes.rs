@@ -2,11 +2,7 @@
 
 use crate::case::Case;
 use crate::classes::legal;
-use crate::edit::MOST_STEPS;
-use parties::{Random, Step};
-
-/// The longest duration.
-const LONGEST: u16 = 65_535;
+use parties::{Random, Step, LONGEST, MOST_STEPS};
 
 /// One of the extremes.
 pub fn draw(random: &mut Random, case: &mut Case) {

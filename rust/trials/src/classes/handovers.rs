@@ -11,7 +11,7 @@ const DATA: u8 = 4;
 /// a while DATA is turned over for some ticks inside a handover, or CLK, or both.
 pub fn draw(random: &mut Random, case: &mut Case) {
     let count = random.between(1, 3) as usize;
-    draw::transfer(random, count, BRISK, &mut case.transfer);
+    case.transfer = draw::transfer(random, count, BRISK);
     let place = random.place(count);
     let byte = &mut case.transfer.bytes[place];
     if !random.one_in(8) {

@@ -13,7 +13,7 @@ pub fn draw(random: &mut Random, case: &mut Case) {
         24..=30 => (random.between(1, 2), WIDE),
         _ => (random.between(3, 6), WIDE),
     };
-    draw::transfer(random, count as usize, style, &mut case.transfer);
+    case.transfer = draw::transfer(random, count as usize, style);
     put_legal(random, case);
 }
 

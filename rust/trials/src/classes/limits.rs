@@ -7,7 +7,7 @@ use parties::{Random, Step, Transfer};
 /// A legal transfer with one span set to a limit or a tick or two beside it, and sometimes a tick of other lines nearby.
 pub fn draw(random: &mut Random, case: &mut Case) {
     let count = random.between(1, 3);
-    draw::transfer(random, count as usize, BRISK, &mut case.transfer);
+    case.transfer = draw::transfer(random, count as usize, BRISK);
     let place = random.place(count as usize);
     match random.below(8) {
         0 => at_the_start_and_the_end(random, &mut case.transfer),

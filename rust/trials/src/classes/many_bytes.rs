@@ -2,9 +2,8 @@
 
 use crate::case::Case;
 use crate::classes::legal::put_legal;
-use crate::edit::MOST_STEPS;
 use parties::draw::{self, BRISK, DENSE};
-use parties::Random;
+use parties::{Random, MOST_STEPS};
 
 /// The most bytes that a recording can hold, at nineteen steps for each and five more.
 const MOST_BYTES: u32 = (MOST_STEPS as u32 - 5) / 19;
@@ -18,7 +17,7 @@ pub fn draw(random: &mut Random, case: &mut Case) {
         _ => (random.between(21, 100), BRISK),
     };
     loop {
-        draw::transfer(random, count as usize, style, &mut case.transfer);
+        case.transfer = draw::transfer(random, count as usize, style);
         case.lay_out();
         if case.steps.len() <= MOST_STEPS {
             break;
@@ -35,10 +34,9 @@ mod tests {
     #[test]
     fn the_most_bytes_are_841_and_they_come_up() {
         assert_eq!(MOST_BYTES, 841);
-        let mut case = Case::new();
         let mut most = 0;
         for seed in 0..40 {
-            case.clear();
+            let mut case = Case::default();
             draw(&mut Random::new(seed), &mut case);
             assert!(case.steps.len() <= MOST_STEPS);
             most = most.max(case.string.len());

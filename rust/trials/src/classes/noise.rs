@@ -76,7 +76,7 @@ fn likely_steps(random: &mut Random, case: &mut Case, count: usize) {
 /// A legal transfer up to some step, and noise from there on.
 fn begun_transfer(random: &mut Random, case: &mut Case) {
     let count = random.between(1, 2) as usize;
-    draw::transfer(random, count, BRISK, &mut case.transfer);
+    case.transfer = draw::transfer(random, count, BRISK);
     case.lay_out();
     let kept = random.place(case.steps.len() + 1);
     case.steps.truncate(kept);
