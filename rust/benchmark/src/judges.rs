@@ -1,13 +1,12 @@
 //! The three judges, called alike, and the memory that they are lent.
 
+use crate::by_ticks;
+use by_steps::Answer;
 use station::{BYTE_ROOM, LEDGER_ROOM};
-
-/// Number, tick, step and count.
-pub type Four = [u32; 4];
 
 pub struct Judge {
     pub name: &'static str,
-    pub judge: fn(&[u8], &mut [u8], &mut [u32]) -> Four,
+    pub judge: fn(&[u8], &mut [u8], &mut [u32]) -> Answer,
 }
 
 /// The first is the one that the others are compared with.
@@ -18,32 +17,22 @@ pub const JUDGES: [Judge; 3] = [
     },
     Judge {
         name: "`by_ticks`, plain Rust",
-        judge: by_ticks,
+        judge: by_ticks::judge,
     },
     Judge {
         name: "`by_steps`, plain Rust",
-        judge: by_steps,
+        judge: by_steps::judge,
     },
 ];
 
-fn proved(file: &[u8], bytes: &mut [u8], ledger: &mut [u32]) -> Four {
+fn proved(file: &[u8], bytes: &mut [u8], ledger: &mut [u32]) -> Answer {
     let answer = station::judge(file, bytes, ledger);
-    [
-        answer.number.as_u32(),
-        answer.tick,
-        answer.step,
-        answer.count,
-    ]
-}
-
-fn by_ticks(file: &[u8], bytes: &mut [u8], ledger: &mut [u32]) -> Four {
-    let answer = by_ticks::judge(file, bytes, ledger);
-    [answer.number, answer.tick, answer.step, answer.count]
-}
-
-fn by_steps(file: &[u8], bytes: &mut [u8], ledger: &mut [u32]) -> Four {
-    let answer = by_steps::judge(file, bytes, ledger);
-    [answer.number, answer.tick, answer.step, answer.count]
+    Answer {
+        number: answer.number.as_u32(),
+        tick: answer.tick,
+        step: answer.step,
+        count: answer.count,
+    }
 }
 
 /// The buffers of one judge.

@@ -3,17 +3,16 @@
 
 #![forbid(unsafe_code)]
 
+mod by_ticks;
 mod figures;
 mod folder;
 mod heading;
 mod judges;
-mod layout;
 mod machine;
 mod recordings;
 mod same;
 mod sigrok;
 mod spread;
-mod steps;
 mod table;
 mod timing;
 

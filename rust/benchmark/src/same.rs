@@ -1,11 +1,12 @@
 //! Before anything is measured: all judges answer alike, and leave the same memory.
 
-use crate::judges::{Four, Judge, Lent, JUDGES};
+use crate::judges::{Judge, Lent, JUDGES};
 use crate::recordings::Recording;
+use by_steps::Answer;
 
 pub fn require_same_answers(recording: &Recording) -> Result<(), String> {
     let (first, first_lent) = answer(&JUDGES[0], recording);
-    if first[0] != recording.number {
+    if first.number != recording.number.as_u32() {
         return Err(format!(
             "{}: {} answered {first:?}, not {}",
             recording.name, JUDGES[0].name, recording.number
@@ -29,14 +30,14 @@ pub fn require_same_answers(recording: &Recording) -> Result<(), String> {
     Ok(())
 }
 
-fn answer(judge: &Judge, recording: &Recording) -> (Four, Lent) {
+fn answer(judge: &Judge, recording: &Recording) -> (Answer, Lent) {
     let mut lent = Lent::new();
-    let four = (judge.judge)(&recording.file, &mut lent.bytes, &mut lent.ledger);
-    (four, lent)
+    let answer = (judge.judge)(&recording.file, &mut lent.bytes, &mut lent.ledger);
+    (answer, lent)
 }
 
 /// The bytes that the recording hands over.
 pub fn bytes_of(recording: &Recording) -> Vec<u8> {
-    let (four, lent) = answer(&JUDGES[0], recording);
-    lent.bytes[..four[3] as usize].to_vec()
+    let (answer, lent) = answer(&JUDGES[0], recording);
+    lent.bytes[..answer.count as usize].to_vec()
 }

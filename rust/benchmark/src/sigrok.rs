@@ -1,10 +1,9 @@
 //! sigrok's decoder `iec`, a program of its own: it reads a dump that bin/vcd made, outside the time that is measured.
 
 use crate::folder::Folder;
-use crate::layout;
-use crate::recordings::Recording;
+use crate::recordings::{step, Recording, BOTH};
 use crate::same;
-use crate::steps::BOTH;
+use parties::file_of;
 use std::fs::{self, File};
 use std::path::{Path, PathBuf};
 use std::process::Command;
@@ -31,7 +30,7 @@ impl Sigrok {
         let said = String::from_utf8_lossy(&said.stdout).into_owned();
         let version = said.lines().next().unwrap_or("sigrok-cli").to_string();
         let folder = Folder::make()?;
-        let one_tick = dump_file(&folder, "one-tick", &layout::file_of(&[(1, BOTH)]))?;
+        let one_tick = dump_file(&folder, "one-tick", &file_of(&[step(1, BOTH)]))?;
         Ok(Some(Sigrok {
             version,
             one_tick,

@@ -1,9 +1,9 @@
 //! The rows of each phase, tried in document 01's order. Lines are written
 //! (CLK, DATA), and a tick that a row doesn't name falls to the next.
 
-use crate::limits::Limits;
-use crate::state::{Byte, Lines, Next, Phase, Place, State};
-use crate::verdict::Verdict;
+use super::limits::Limits;
+use super::state::{Byte, Lines, Next, Phase, Place, State};
+use super::verdict::Verdict;
 
 const PULLED: bool = true;
 const RELEASED: bool = false;

@@ -1,6 +1,6 @@
 //! The judge's state, and what one tick makes of it.
 
-use crate::verdict::Verdict;
+use super::verdict::Verdict;
 
 /// What a tick shows: for each line whether it's pulled.
 #[derive(Clone, Copy)]

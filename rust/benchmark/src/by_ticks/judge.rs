@@ -1,7 +1,7 @@
 //! The judge: the loops over steps and ticks, and the lent memory.
 
-use crate::state::{Byte, Lines, Next, Phase, Place, State};
-use crate::verdict::Verdict;
+use super::state::{Byte, Lines, Next, Phase, Place, State};
+use super::verdict::Verdict;
 use by_steps::recording::{check, Recording, Step};
 use by_steps::Answer;
 
