@@ -1,0 +1,96 @@
+//! Both judges and both writers held to document 01's sample recordings, as they stand in samples/.
+
+use parties::{file_of, Step, LONGEST, MOST_STEPS};
+use station::Number;
+use std::path::Path;
+
+type Judge = fn(&[u8], &mut [u8], &mut [u32]) -> [u32; 4];
+
+const JUDGES: [Judge; 2] = [
+    |file, bytes, ledger| {
+        let answer = station::judge(file, bytes, ledger);
+        [
+            answer.number.as_u32(),
+            answer.tick,
+            answer.step,
+            answer.count,
+        ]
+    },
+    |file, bytes, ledger| {
+        let answer = by_steps::judge(file, bytes, ledger);
+        [answer.number, answer.tick, answer.step, answer.count]
+    },
+];
+
+/// The samples' names and bytes, by their names.
+fn samples() -> Vec<(String, Vec<u8>)> {
+    let folder = Path::new(env!("CARGO_MANIFEST_DIR")).join("../../samples");
+    let files = std::fs::read_dir(folder)
+        .unwrap()
+        .map(|entry| entry.unwrap());
+    let mut samples: Vec<_> = files
+        .map(|file| (file.file_name().into_string().unwrap(), file.path()))
+        .filter(|(name, _)| name.ends_with(".rec"))
+        .map(|(name, path)| (name, std::fs::read(path).unwrap()))
+        .collect();
+    samples.sort();
+    samples
+}
+
+/// A judgement as bin/judge prints it. No place beyond the count may have changed.
+fn judged(judge: Judge, name: &str, file: &[u8]) -> String {
+    let (mut bytes, mut ledger) = ([0xA5; 1000], [7; 2000]);
+    let [number, tick, step, count] = judge(file, &mut bytes, &mut ledger);
+    let (handed, kept) = bytes.split_at(count as usize);
+    let (ticks, kept_ticks) = ledger.split_at(2 * handed.len());
+    assert!(kept.iter().all(|place| *place == 0xA5), "{name}");
+    assert!(kept_ticks.iter().all(|place| *place == 7), "{name}");
+    let named = Number::ALL.iter().find(|named| named.as_u32() == number);
+    let mut text = format!(
+        "{number} {tick} {step} {count} {} samples/{name}\n",
+        named.unwrap()
+    );
+    if count > 0 {
+        let bytes: String = handed.iter().map(|byte| format!(" {byte:02x}")).collect();
+        let ticks: String = ticks.iter().map(|tick| format!(" {tick}")).collect();
+        text += &format!("bytes{bytes}\nledger{ticks}\n");
+    }
+    text
+}
+
+#[test]
+fn every_sample_has_its_stored_answer() {
+    for judge in JUDGES {
+        let each = samples()
+            .into_iter()
+            .map(|(name, file)| judged(judge, &name, &file));
+        let stored = include_str!("../../../samples/answers.txt");
+        assert_eq!(each.collect::<String>(), stored);
+    }
+}
+
+#[test]
+fn the_longest_recording_is_judged_to_its_end() {
+    // The receiver takes DATA at tick 0, and the sender never goes on. Tick by tick it would take seconds.
+    let hold = Step {
+        duration: LONGEST,
+        lines: 6,
+    };
+    let file = file_of(&[hold; MOST_STEPS]);
+    for judge in JUDGES {
+        let answer = judge(&file, &mut [0; 1000], &mut [0; 2000]);
+        assert_eq!(answer, [22, 1_048_560_000, 16_000, 0]);
+    }
+}
+
+#[test]
+fn both_writers_write_the_samples() {
+    let s1 = include_bytes!("../../../samples/s1.rec");
+    let none = include_bytes!("../../../samples/written-from-no-bytes.rec");
+    for (string, sample) in [(&b"A"[..], &s1[..]), (b"", none)] {
+        let (mut ours, mut other) = (vec![0; sample.len()], vec![0; sample.len()]);
+        assert_eq!(station::write(string, &mut ours).number, Number::Written);
+        assert_eq!(by_steps::write(string, &mut other).number, 0);
+        assert_eq!((&ours[..], &other[..]), (sample, sample));
+    }
+}
