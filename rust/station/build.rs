@@ -5,16 +5,6 @@
 use std::path::{Path, PathBuf};
 use std::process::{exit, Command, Output};
 
-/// The Rattle crates that the archive is made of.
-const CRATES: [&str; 6] = [
-    "answer",
-    "recording",
-    "transfer",
-    "judge",
-    "writer",
-    "station",
-];
-
 /// Stops the build, and says why.
 fn fail(why: &str) -> ! {
     eprintln!("station: {why}");
@@ -38,20 +28,11 @@ fn root() -> PathBuf {
     }
 }
 
-/// Tells Cargo what the archive is made from. A folder that does not exist would make Cargo run this script every time.
+/// Tells Cargo what the archive is made from: the Rattle crates. `rt` itself knows which of them it takes.
 fn rerun_if_changed(root: &Path) {
     println!("cargo:rerun-if-changed=build.rs");
-    println!(
-        "cargo:rerun-if-changed={}",
-        root.join("crates.txt").display()
-    );
-    for name in CRATES {
-        for part in ["src", "specs", "proofs"] {
-            let folder = root.join("crates").join(name).join(part);
-            if folder.exists() {
-                println!("cargo:rerun-if-changed={}", folder.display());
-            }
-        }
+    for source in ["crates.txt", "crates"] {
+        println!("cargo:rerun-if-changed={}", root.join(source).display());
     }
 }
 
