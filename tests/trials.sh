@@ -33,6 +33,14 @@ answers() {
     is "$what: output" "$text" "$out"
 }
 
+# silent WHAT COMMAND..: the command ends with 0 and says nothing.
+silent() {
+    what=$1
+    shift
+    run "$@"
+    is "$what" "0 " "$status $out$err"
+}
+
 # needs WHAT COMMAND..: what the trials stand on. Where it fails there is nothing to try.
 needs() {
     what=$1

@@ -46,24 +46,20 @@ int is_kept_from(struct lent lent, size_t place) {
     return 1;
 }
 
-/* The bytes end where a page ends, and the next page is shut. */
-struct shut shut(const uint8_t *bytes, size_t length) {
+/* The last zero, or byte, ends where a page ends, and the next page is shut. */
+struct shut shut(const uint8_t *bytes, size_t length, size_t zeros) {
     size_t page = (size_t)sysconf(_SC_PAGESIZE);
-    size_t room = (length + page - 1) / page * page;
-    uint8_t *whole = mmap(NULL, room + page, PROT_READ | PROT_WRITE, MAP_PRIVATE | MAP_ANONYMOUS, -1, 0);
+    size_t room = (length + zeros + page - 1) / page * page;
+    uint8_t *whole = mmap(NULL, room + page, PROT_READ | PROT_WRITE, MAP_PRIVATE | MAP_ANONYMOUS | MAP_NORESERVE, -1, 0);
     if (whole == MAP_FAILED) {
         give_up("pages to shut");
     }
-    if (length > 0) {
-        memcpy(whole + room - length, bytes, length);
-        if (mprotect(whole, room, PROT_READ) != 0) {
-            give_up("pages to shut");
-        }
+    uint8_t *first = whole + room - zeros - length;
+    memcpy(first, bytes, length);
+    if (mprotect(whole, room, PROT_READ) != 0 || mprotect(whole + room, page, PROT_NONE) != 0) {
+        give_up("pages to shut");
     }
-    if (mprotect(whole + room, page, PROT_NONE) != 0) {
-        give_up("a page to shut");
-    }
-    struct shut made = {whole, room + page, whole + room - length};
+    struct shut made = {whole, room + page, first};
     return made;
 }
 

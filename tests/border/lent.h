@@ -24,14 +24,14 @@ void take_back(struct lent lent);
 /* Whether the canaries, and all places from this one on, hold what they held. */
 int is_kept_from(struct lent lent, size_t place);
 
-/* Bytes that may only be read. */
+/* Bytes that may only be read, with so many zeros after them. */
 struct shut {
     uint8_t *whole;
     size_t whole_length;
     const uint8_t *bytes;
 };
 
-struct shut shut(const uint8_t *bytes, size_t length);
+struct shut shut(const uint8_t *bytes, size_t length, size_t zeros);
 void open_up(struct shut shut);
 
 #endif
