@@ -9,12 +9,9 @@ passed=0 failed=0
 
 # is WHAT WANTED GOT: one trial.
 is() {
-    if [ "$2" = "$3" ]; then
-        passed=$((passed + 1))
-    else
-        failed=$((failed + 1))
-        printf 'FAILED %s\n  wanted: %s\n  got:    %s\n' "$1" "$2" "$3"
-    fi
+    [ "$2" = "$3" ] && passed=$((passed + 1)) && return
+    failed=$((failed + 1))
+    printf 'FAILED %s\n  wanted: %s\n  got:    %s\n' "$1" "$2" "$3"
 }
 
 # Runs a command; what it printed is then in `out` and `err`, its exit status in `status`.
@@ -39,16 +36,6 @@ silent() {
     shift
     run "$@"
     is "$what" "0 " "$status $out$err"
-}
-
-# needs WHAT COMMAND..: what the trials stand on. Where it fails there is nothing to try.
-needs() {
-    what=$1
-    shift
-    "$@" >"$room/log" 2>&1 </dev/null && return
-    tail -n 40 "$room/log" >&2
-    printf '%s: %s failed, as said above\n' "tests/$(basename "$0")" "$what" >&2
-    exit 2
 }
 
 # The last line, and the status: a test in which nothing was tried has not passed.
