@@ -394,7 +394,8 @@ module _ (L : Limits) where
           plan = record { found = a .count; hold = h .count; wait = x .count; sending = s .plan };
           rules = record {
             first-take = record { in-time = omega (arith, a .ends, a .after .0) };
-            first-release = record { release = h .some; let-go = x .some };
+            first-release = record { after-take = h .some };
+            first-let-go = record { later = x .some };
             sending = s .rules;
           };
           tidy = s .tidy;

@@ -27,8 +27,8 @@ use Rattle.transfer.proofs.Demand3.{standard-demand3}
 
 -- A pair is for a string of one or more bytes, each below 256.
 sends-one : (now : ℕ) (s : Sending) → 1 ≤ length (values (sendingBytes now s))
-sends-one now (more gap f rest) = omega arith
-sends-one now (last gap ack resp f silence) = omega arith
+sends-one now (more gap f wait rest) = omega arith
+sends-one now (last gap ack resp f wait silence) = omega arith
 
 weight-bounds : (w : ℕ) (xs : List Bit) → valueOf w xs + w ≤ w * 2 ^ length xs
 weight-bounds w [] = omega arith
@@ -46,8 +46,8 @@ is-byte L f rules =
     omega arith
 
 sends-bytes : (L : Limits) (now : ℕ) (s : Sending) → SendingRules L s → AllBytes (values (sendingBytes now s))
-sends-bytes L now (more gap f rest) rules = (is-byte L f (rules .0 .frame), sends-bytes L _ rest (rules .1))
-sends-bytes L now (last gap ack resp f silence) rules = (is-byte L f (rules .frame), tt)
+sends-bytes L now (more gap f wait rest) rules = (is-byte L f (rules .0 .frame), sends-bytes L _ rest (rules .1))
+sends-bytes L now (last gap ack resp f wait silence) rules = (is-byte L f (rules .frame), tt)
 
 pub pair-sends-bytes : PairSendsBytes
 pair-sends-bytes L string sender receiver dated p =
@@ -71,7 +71,8 @@ byte80-keeps let-go take a b c =
     let o = bit-keeps false in
     record {
       first-take = record { in-time = omega arith };
-      first-release = record { release = omega arith; let-go = omega arith };
+      first-release = record { after-take = omega arith };
+      first-let-go = record { later = omega arith };
       sending =
           record {
             end-mark =
@@ -87,8 +88,9 @@ byte80-keeps let-go take a b c =
                 record {
                   bits = record { eight = refl; each = (o, (o, (o, (o, (o, (o, (o, (bit-keeps true, tt)))))))) };
                   handover = record { keeps = a; zero-keeps-not = no-zero; take-least = b; take-most = omega arith };
-                  release = record { after-take = omega arith; let-go = omega arith };
+                  release = record { after-take = omega arith };
                 };
+            let-go = record { later = omega arith };
             silent = record { some = omega arith };
           };
     }

@@ -1,7 +1,7 @@
 -- A pair's recording is complete: the run goes along a plan, phase by phase. Assumes nothing.
 use Prim.Native.Nat.{ℕ, zero, suc, _+_, _≤_, _<_}
 use native.Mathlib.Omega.{arith}
-use mathlib.Core.Path.{_≡_, refl, sym, ap, ap₂, _∙_, subst⁻¹}
+use mathlib.Core.Path.{_≡_, refl, sym, ap, _∙_, subst, subst⁻¹}
 use mathlib.Core.Bool.{Bool, true, false, _||_}
 use mathlib.Core.List.{List, [], _∷_, _++_, map, append-nil}
 use lib.ListN.{length, replicate}
@@ -9,11 +9,12 @@ use borrow.Author.Tests.{lt-ltb, le-ltb, le-leb, lt-leb}
 use Rattle.answer.specs.Choice.{if_then_else_}
 use Rattle.transfer.specs.Offsets.{below, upTo}
 use Rattle.transfer.specs.Phases.{Move, Go, Hand, next, same, withBit, handover, afterBit}
+use Rattle.transfer.specs.Moves.{heldByte}
 use Rattle.transfer.specs.Outcome.{Outcome, ended, give, onward, run}
 use Rattle.transfer.specs.Parties.{Pulls, pulls, nobody, held, clock, clockHeld, sets, offers, Bit, Frame}
 use Rattle.transfer.specs.Parties.{Sending, more, last, Plan, bitsTrack, frameTrack, sendingTrack, track}
 use Rattle.transfer.specs.Parties.{bitsTicks, byteOf, afterFrame, sendingBytes, planBytes}
-use Rattle.transfer.specs.Rules.{lastOf, FirstTakeRule, FirstReleaseRule, EndMarkRule, BitRule, BitRules, FrameRules}
+use Rattle.transfer.specs.Rules.{lastOf, FirstTakeRule, FirstReleaseRule, LetGoRule, EndMarkRule, BitRule, BitRules, FrameRules}
 use Rattle.transfer.specs.Rules.{SendingRules, PlanRules}
 use Rattle.transfer.specs.Pair.{SameOrLater}
 use Rattle.transfer.specs.Demand3.{Consistent}
@@ -62,16 +63,17 @@ pub record CompleteBy (o : Outcome) (other : List Byte) : Type 0 where
   pub verdict : o .decision .verdict ≡ Complete
   pub ledger : SameOrLater (o .bytes) other
 
--- o hands a byte over, the same as b and with ticks no later, and goes on as r.
+-- o hands a byte over, of the value of b and with ticks no later, and goes on as r.
 record Hands (o r : Outcome) (b : Byte) : Type 0 where
-  handed : Byte
-  is : o ≡ give handed r
-  value : handed .value ≡ b .value
-  let-go : handed .«let_go» ≤ b .«let_go»
-  take : handed .take ≤ b .take
+  let-go : ℕ
+  take : ℕ
+  is : o ≡ give (record { value = b .value; «let_go» = let-go; take = take }) r
+  let-go-by : let-go ≤ b .«let_go»
+  take-by : take ≤ b .take
 
 then-hands : {o o′ r : Outcome} {b : Byte} → o ≡ o′ → Hands o′ r b → Hands o r b
-then-hands e h = record { handed = h .handed; is = e ∙ h .is; value = h .value; let-go = h .let-go; take = h .take }
+then-hands e h =
+    record { let-go = h .let-go; take = h .take; is = e ∙ h .is; let-go-by = h .let-go-by; take-by = h .take-by }
 
 module _ (L : Limits) where
   -- One tick.
@@ -106,15 +108,15 @@ module _ (L : Limits) where
       ∙ at-tick q (map shows js) (omega arith)
 
   -- A, B and C, up to the first letting go.
-  along-start : (found hold wait : ℕ) (js : List Pulls) → FirstTakeRule L found → FirstReleaseRule L hold wait
+  along-start : (found hold wait : ℕ) (js : List Pulls) → FirstTakeRule L found → FirstReleaseRule L hold → LetGoRule L wait
       → run L 0 Start (map shows (replicate found clock ++ (replicate hold clockHeld ++ (replicate wait held ++ js))))
       ≡ run L (found + hold + wait) (ReadyToSend false false) (map shows js)
   unfolding next
-  along-start found hold wait js take release =
+  along-start found hold wait js take release let-go =
       stays Start true false false found 0 _ (λ i x y. is-below _ _ _ _ _ (omega arith))
       ∙ at-tick Start _ (omega arith)
-      ∙ enters Start FirstHold true false true hold found _ (release .release) refl (λ i x y. refl)
-      ∙ enters FirstHold (ReadyToSend false false) false false true wait (found + hold) js (release .let-go) refl (λ i x y. refl)
+      ∙ enters Start FirstHold true false true hold found _ (release .after-take) refl (λ i x y. refl)
+      ∙ enters FirstHold (ReadyToSend false false) false false true wait (found + hold) js (let-go .later) refl (λ i x y. refl)
 
   -- A set-up's further ticks.
   along-set-up : (m : Bool) (left v s now : ℕ) (d : Bool) (ds : List Bool) (js : List Pulls) → now + length ds ≤ s + L .«set_up_most»
@@ -141,121 +143,104 @@ module _ (L : Limits) where
       (λ i a b. is-same (x .bit) _ _ ∙ is-below _ _ _ _ _ (omega (arith, rules .valid-most)))
       ∙ at-tick _ _ (omega arith)
 
-  -- The receiver holds DATA; the sender releases CLK, which hands the byte over; the receiver lets go.
-  lets-go : (p : Phase) (b : Byte) (m : Bool) (k now : ℕ) (js : List Pulls) → 1 ≤ k
-      → next L now p false true ≡ Hand b (ReadyToSend true m)
-      → run L now p (map shows (replicate k held ++ js)) ≡ give b (run L (now + k) (ReadyToSend true m) (map shows js))
-  unfolding next
-  lets-go p b m zero now js one e = absurd (omega arith)
-  lets-go p b m (suc k) now js one e =
-      one-tick now p (Hand b (ReadyToSend true m)) false true _ e
-      ∙ ap (give b) (stays (ReadyToSend true m) false false true k (suc now) js (λ i x y. refl) ∙ at-tick _ _ (omega arith))
+  -- What follows the hold of a byte, or its carried handover, at tick `at`: the byte is handed over, and then r.
+  record Leaves (m : Bool) (js : List Pulls) (at : ℕ) (r : Outcome) : Type 0 where
+    from-hold : (v t l : ℕ) → t + L .«between_bytes» ≤ at
+        → run L at (Hold m v t l) (map shows js) ≡ give (heldByte (Hold m v t l)) r
+    from-carried : (v s : ℕ) → s + L .«between_bytes» < at
+        → run L at (Carried m v s) (map shows js) ≡ give (heldByte (Carried m v s)) r
 
-  along-hold : (m : Bool) (v t l n k now : ℕ) (js : List Pulls) → t + L .«between_bytes» ≤ now + n → 1 ≤ k
-      → run L now (Hold m v t l) (map shows (handoverTicks n 0 0 ++ (replicate k held ++ js)))
-      ≡ give (record { value = v; «let_go» = l; take = t }) (run L (now + n + k) (ReadyToSend true m) (map shows js))
+  -- The sender releases CLK, which hands the byte over, and the receiver lets go k ticks later.
+  releases : (p : Phase) (m : Bool) (k at : ℕ) (js : List Pulls) → 1 ≤ k
+      → next L at p false true ≡ Hand (heldByte p) (ReadyToSend true m)
+      → run L at p (map shows (replicate k held ++ js)) ≡ give (heldByte p) (run L (at + k) (ReadyToSend true m) (map shows js))
   unfolding next
-  along-hold m v t l zero k now js h one =
-      lets-go (Hold m v t l) _ m k now js one (not-below _ _ _ _ _ (omega arith)) ∙ ap (give _) (at-tick _ _ (omega arith))
-  along-hold m v t l (suc n) k now js h one =
-      step now (Hold m v t l) (Hold m v t l) true true _ refl
-      ∙ along-hold m v t l n k (suc now) js (omega arith) one
-      ∙ ap (give _) (at-tick _ _ (omega arith))
+  releases p m zero at js one e = absurd (omega arith)
+  releases p m (suc k) at js one e =
+      one-tick at p (Hand (heldByte p) (ReadyToSend true m)) false true _ e
+      ∙ ap (give (heldByte p)) (stays (ReadyToSend true m) false false true k (suc at) js (λ i x y. refl) ∙ at-tick _ _ (omega arith))
 
-  -- Open, with the take t ticks ahead and the release of CLK n ticks ahead.
-  along-open : (m : Bool) (v s l t n k now : ℕ) (js : List Pulls) → now + t ≤ s + L .«take_latest» → t < n
-      → t + L .«between_bytes» ≤ n → 1 ≤ k
-      → run L now (Open m v s l) (map shows (handoverTicks n 0 t ++ (replicate k held ++ js)))
-      ≡ give (record { value = v; «let_go» = l; take = now + t }) (run L (now + n + k) (ReadyToSend true m) (map shows js))
+  lets-go : (m : Bool) (k at : ℕ) (js : List Pulls) → LetGoRule L k
+      → Leaves m (replicate k held ++ js) at (run L (at + k) (ReadyToSend true m) (map shows js))
   unfolding next
-  along-open m v s l t zero k now js h a b one = absurd (omega arith)
-  along-open m v s l zero (suc n) k now js h a b one =
-      step now (Open m v s l) (Hold m v now l) true true _ refl
-      ∙ along-hold m v now l n k (suc now) js (omega arith) one
-      ∙ ap₂ (λ u e. give (record { value = v; «let_go» = l; take = u }) (run L e (ReadyToSend true m) (map shows js)))
-      (omega arith) (omega arith)
-  along-open m v s l (suc t) (suc n) k now js h a b one =
-      step now (Open m v s l) (Open m v s l) true false _ (is-below _ _ _ _ _ (omega arith))
-      ∙ along-open m v s l t n k (suc now) js (omega arith) (omega arith) (omega arith) one
-      ∙ ap₂ (λ u e. give (record { value = v; «let_go» = l; take = u }) (run L e (ReadyToSend true m) (map shows js)))
-      (omega arith) (omega arith)
-
-  -- Carried: both pull, or the receiver alone.
-  carried-on : (m : Bool) (v s n l now : ℕ) (js : List Pulls)
-      → run L now (Carried m v s) (map shows (handoverTicks n l 0 ++ js)) ≡ run L (now + n) (Carried m v s) (map shows js)
-  unfolding next
-  carried-on m v s zero l now js = at-tick _ _ (omega arith)
-  carried-on m v s (suc n) l now js =
-      step now (Carried m v s) (Carried m v s) true true _ refl ∙ carried-on m v s n (less l) (suc now) js ∙ at-tick _ _ (omega arith)
-
-  -- Carried, with the letting go l ticks ahead, the take t and the release of CLK n.
-  along-carried : (m : Bool) (v s t n l k now : ℕ) (js : List Pulls) → s < now → now + l ≤ s + L .«keep_most»
-      → now + t ≤ s + L .«take_latest»
-      → t < n → t + L .«between_bytes» ≤ n → 1 ≤ k
-      → Hands (run L now (Carried m v s) (map shows (handoverTicks n l t ++ (replicate k held ++ js))))
-      (run L (now + n + k) (ReadyToSend true m) (map shows js)) (record { value = v; «let_go» = now + l; take = now + t })
-  unfolding next
-  along-carried m v s zero n l k now js h a b c d one =
+  lets-go m k at js rule =
       record {
-        handed = record { value = v; «let_go» = s + 1; take = s + 1 };
-        is =
-            carried-on m v s n l now _
-            ∙ lets-go (Carried m v s) (record { value = v; «let_go» = s + 1; take = s + 1 }) m k (now + n) js one
-            (not-upTo _ _ _ _ _ (omega arith));
-        value = refl;
-        let-go = omega arith;
-        take = omega arith;
-      }
-  along-carried m v s (suc t) zero l k now js h a b c d one = absurd (omega arith)
-  along-carried m v s (suc t) (suc n) zero k now js h a b c d one =
-      record {
-        handed = record { value = v; «let_go» = now; take = suc now + t };
-        is =
-            step now (Carried m v s) (Open m v s now) true false _ (is-upTo _ _ _ _ _ (omega arith))
-            ∙ along-open m v s now t n k (suc now) js (omega arith) (omega arith) (omega arith) one
-            ∙ ap (give (record { value = v; «let_go» = now; take = suc now + t })) (at-tick _ _ (omega arith));
-        value = refl;
-        let-go = omega arith;
-        take = omega arith;
-      }
-  along-carried m v s (suc t) (suc n) (suc l) k now js h a b c d one =
-      let r = along-carried m v s t n l k (suc now) js (omega arith) (omega arith) (omega arith) (omega arith) (omega arith) one in
-      record {
-        handed = r .handed;
-        is = step now (Carried m v s) (Carried m v s) true true _ refl ∙ r .is ∙ ap (give (r .handed)) (at-tick _ _ (omega arith));
-        value = r .value;
-        let-go = omega (arith, r .let-go);
-        take = omega (arith, r .take);
+        from-hold = λ v t l h. releases (Hold m v t l) m k at js (rule .later) (not-below _ _ _ _ _ h);
+        from-carried = λ v s h. releases (Carried m v s) m k at js (rule .later) (not-upTo _ _ _ _ _ h);
       }
 
-  -- The handover: the CLK pull after bit 8 at tick e, and what follows.
-  along-handover : (m bit8 : Bool) (v e l t n k : ℕ) (js : List Pulls) → (bit8 ≡ false → l ≡ 0) → l ≤ L .«keep_most»
-      → suc t ≤ L .«take_latest»
-      → t < n → t + L .«between_bytes» ≤ n → 1 ≤ k
-      → Hands (onward (handover m v e bit8 (isPositive l)) e (λ (q : Phase). run L (suc e) q (map shows (handoverTicks n
-      (less l) t ++ (replicate k held ++ js)))))
-      (run L (e + suc n + k) (ReadyToSend true m) (map shows js)) (record { value = v; «let_go» = e + l; take = e + suc t })
-  unfolding handover
-  along-handover m bit8 v e zero t n k js z a b c d one =
-      record {
-        handed = record { value = v; «let_go» = e; take = suc e + t };
-        is =
-            along-open m v e e t n k (suc e) js (omega arith) c d one
-            ∙ ap (give (record { value = v; «let_go» = e; take = suc e + t })) (at-tick _ _ (omega arith));
-        value = refl;
-        let-go = omega arith;
-        take = omega arith;
-      }
-  along-handover m false v e (suc l) t n k js z a b c d one = absurd (omega (arith, z refl))
-  along-handover m true v e (suc l) t n k js z a b c d one =
-      let r = along-carried m v e t n l k (suc e) js (omega arith) (omega arith) (omega arith) c d one in
-      record {
-        handed = r .handed;
-        is = r .is ∙ ap (give (r .handed)) (at-tick _ _ (omega arith));
-        value = r .value;
-        let-go = omega (arith, r .let-go);
-        take = omega (arith, r .take);
-      }
+  -- A handover: CLK was pulled at tick `since`, the receiver takes at tick `take`, and from tick `at` on js follows.
+  module _ (m : Bool) (v since take at : ℕ) (js : List Pulls) (r : Outcome) (after : Leaves m js at r) (begun : since < take)
+      (in-time : take ≤ since + L .«take_latest») (held-on : take < at) (late : take + L .«between_bytes» ≤ at) where
+    -- The receiver holds DATA for n more ticks.
+    along-hold : (l n now : ℕ) → now + n ≡ at
+        → run L now (Hold m v take l) (map shows (handoverTicks n 0 0 ++ js)) ≡ give (heldByte (Hold m v take l)) r
+    unfolding next
+    along-hold l zero now e = at-tick _ _ (omega arith) ∙ after .from-hold v take l late
+    along-hold l (suc n) now e =
+        step now (Hold m v take l) (Hold m v take l) true true _ refl ∙ along-hold l n (suc now) (omega arith)
+
+    -- Open, with the take t ticks ahead.
+    along-open : (l t n now : ℕ) → now + t ≡ take → now + n ≡ at
+        → run L now (Open m v since l) (map shows (handoverTicks n 0 t ++ js)) ≡ give (heldByte (Hold m v take l)) r
+    unfolding next
+    along-open l t zero now d e = absurd (omega arith)
+    along-open l zero (suc n) now d e =
+        step now (Open m v since l) (Hold m v take l) true true _ (ap (λ (t : ℕ). Go (Hold m v t l)) (omega arith))
+        ∙ along-hold l n (suc now) (omega arith)
+    along-open l (suc t) (suc n) now d e =
+        step now (Open m v since l) (Open m v since l) true false _ (is-below _ _ _ _ _ (omega arith))
+        ∙ along-open l t n (suc now) (omega arith) (omega arith)
+
+    -- Carried, with the receiver on DATA, alone or beside the sender, for n more ticks.
+    along-both : (l n now : ℕ) → now + n ≡ at
+        → run L now (Carried m v since) (map shows (handoverTicks n l 0 ++ js)) ≡ give (heldByte (Carried m v since)) r
+    unfolding next
+    along-both l zero now e = at-tick _ _ (omega arith) ∙ after .from-carried v since (omega arith)
+    along-both l (suc n) now e =
+        step now (Carried m v since) (Carried m v since) true true _ refl ∙ along-both (less l) n (suc now) (omega arith)
+
+    -- Carried, with the letting go l ticks ahead and the take t.
+    along-carried : (let-go l t n now : ℕ) → let-go ≤ since + L .«keep_most» → since < now → now + l ≡ let-go → now + t ≡ take
+        → now + n ≡ at
+        → Hands (run L now (Carried m v since) (map shows (handoverTicks n l t ++ js))) r
+        (record { value = v; «let_go» = let-go; take = take })
+    unfolding next
+    along-carried let-go l zero n now k b c d e =
+        let b = heldByte (Carried m v since) in
+        record { let-go = b .«let_go»; take = b .take; is = along-both l n now e; let-go-by = omega arith; take-by = omega arith }
+    along-carried let-go l (suc t) zero now k b c d e = absurd (omega arith)
+    along-carried let-go zero (suc t) (suc n) now k b c d e =
+        record {
+          let-go = now;
+          take = take;
+          is =
+              step now (Carried m v since) (Open m v since now) true false _ (is-upTo _ _ _ _ _ (omega arith))
+              ∙ along-open now t n (suc now) (omega arith) (omega arith);
+          let-go-by = omega arith;
+          take-by = omega arith;
+        }
+    along-carried let-go (suc l) (suc t) (suc n) now k b c d e =
+        then-hands (step now (Carried m v since) (Carried m v since) true true _ refl)
+        (along-carried let-go l t n (suc now) k (omega arith) (omega arith) (omega arith) (omega arith))
+
+    -- From the CLK pull after bit 8 on.
+    along-handover : (bit8 : Bool) (l t n : ℕ) → (bit8 ≡ false → l ≡ 0) → l ≤ L .«keep_most» → since + suc t ≡ take → since + suc n ≡ at
+        → Hands (onward (handover m v since bit8 (isPositive l)) since
+        (λ (q : Phase). run L (suc since) q (map shows (handoverTicks n (less l) t ++ js)))) r
+        (record { value = v; «let_go» = since + l; take = take })
+    unfolding handover
+    along-handover bit8 zero t n z k d e =
+        record {
+          let-go = since;
+          take = take;
+          is = along-open since t n (suc since) (omega arith) (omega arith);
+          let-go-by = omega arith;
+          take-by = omega arith;
+        }
+    along-handover false (suc l) t n z k d e = absurd (omega (arith, z refl))
+    along-handover true (suc l) t n z k d e =
+        along-carried (since + suc l) l t n (suc since) (omega arith) (omega arith) (omega arith) (omega arith) (omega arith)
 
   module _ (times : Consistent L) where
     -- D up to a CLK pull or an acknowledgement, F and G.
@@ -309,40 +294,33 @@ module _ (L : Limits) where
         → run L (suc e) (SetUp m 0 d e 7) w ≡ run L (suc e) (SetUp m 0 d e left) w
     seven-left m e d w h = ap (λ (left : ℕ). run L (suc e) (SetUp m 0 d e left) w) (sym h)
 
-    -- A byte, from the CLK pull that begins its bits to the receiver's letting go.
-    along-fields : (m : Bool) (p : Phase) (e : ℕ) (bits : List Bit) (l t n k : ℕ) (js : List Pulls) → Begins m e p
-        → let f : Frame = record { bits = bits; let-go = l; take = t; release = n; wait = k } in
-        FrameRules L f
-        → Hands (run L e p (map shows (frameTicks f js))) (run L (afterFrame e f) (ReadyToSend true m) (map shows js)) (byteOf e f)
-    along-fields m p e [] l t n k js b rules = absurd (omega (arith, rules .bits .eight))
-    along-fields m p e (x ∷ xs) l zero n k js b rules = absurd (omega (arith, rules .handover .take-least))
-    along-fields m p e (x ∷ xs) l (suc t) zero k js b rules = absurd (omega (arith, rules .release .after-take))
-    along-fields m p e (x ∷ xs) l (suc t) (suc n) k js b rules =
+    -- A byte, from the CLK pull that begins its bits to what follows its hold.
+    along-fields : (m : Bool) (p : Phase) (e : ℕ) (bits : List Bit) (l t n : ℕ) (js : List Pulls) (r : Outcome) → Begins m e p
+        → let f : Frame = record { bits = bits; let-go = l; take = t; release = n } in
+        FrameRules L f → Leaves m js (afterFrame e f) r → Hands (run L e p (map shows (frameTicks f js))) r (byteOf e f)
+    along-fields m p e [] l t n js r b rules after = absurd (omega (arith, rules .bits .eight))
+    along-fields m p e (x ∷ xs) l zero n js r b rules after = absurd (omega (arith, rules .handover .take-least))
+    along-fields m p e (x ∷ xs) l (suc t) zero js r b rules after = absurd (omega (arith, rules .release .after-take))
+    along-fields m p e (x ∷ xs) l (suc t) (suc n) js r b rules after =
         let seven : length xs ≡ 7 = omega (arith, rules .bits .eight) in
-        let r =
-        along-handover m (lastBit (x .bit) xs) (takenIn 0 (x ∷ xs)) (e + bitsTicks (x ∷ xs)) l t n k js (rules .handover .zero-keeps-not)
-        (rules .handover .keeps)
-        (rules .handover .take-most) (omega (arith, rules .release .after-take, times .keep-release, times .keep-some)) (omega
-        (arith, rules .release .after-take))
-        (rules .release .let-go) in
-        record {
-          handed = r .handed;
-          is =
-              step e p (SetUp m 0 (x .first) e 7) true (x .first) _ (b (x .first))
-              ∙ seven-left m e (x .first) _ seven
-              ∙ along-bits m 0 e x xs (isPositive l) (handoverTicks n (less l) t ++ (replicate k held ++ js)) (rules .bits .each .0)
-              (rules .bits .each .1)
-              ∙ r .is;
-          value = r .value ∙ eight-bits (x ∷ xs) (rules .bits .eight);
-          let-go = r .let-go;
-          take = r .take;
-        }
+        let since = e + bitsTicks (x ∷ xs) in
+        subst
+        (λ (v : ℕ). Hands (run L e p (map shows (bitsTrack (x ∷ xs) (handoverTicks (suc n) l (suc t) ++ js)))) r
+        (record { value = v; «let_go» = since + l; take = since + suc t })) (eight-bits (x ∷ xs) (rules .bits .eight))
+        (then-hands
+        (step e p (SetUp m 0 (x .first) e 7) true (x .first) _ (b (x .first))
+        ∙ seven-left m e (x .first) _ seven
+        ∙ along-bits m 0 e x xs (isPositive l) (handoverTicks n (less l) t ++ js) (rules .bits .each .0) (rules .bits .each .1))
+        (along-handover m (takenIn 0 (x ∷ xs)) since (since + suc t) (since + suc n) js r after (omega arith)
+        (omega (arith, rules .handover .take-most))
+        (omega (arith, rules .release .after-take, times .keep-release, times .keep-some)) (omega (arith, rules .release .after-take))
+        (lastBit (x .bit) xs) l t n (rules .handover .zero-keeps-not) (rules .handover .keeps) refl refl))
 
-    along-frame : (m : Bool) (p : Phase) (e : ℕ) (f : Frame) (js : List Pulls) → Begins m e p → FrameRules L f
-        → Hands (run L e p (map shows (frameTrack f js))) (run L (afterFrame e f) (ReadyToSend true m) (map shows js)) (byteOf e f)
-    along-frame m p e f js b rules =
+    along-frame : (m : Bool) (p : Phase) (e : ℕ) (f : Frame) (js : List Pulls) (r : Outcome) → Begins m e p → FrameRules L f
+        → Leaves m js (afterFrame e f) r → Hands (run L e p (map shows (frameTrack f js))) r (byteOf e f)
+    along-frame m p e f js r b rules after =
         then-hands (ap (λ (js : List Pulls). run L e p (map shows js)) (frame-ticks f js))
-        (along-fields m p e (f .bits) (f .let-go) (f .take) (f .release) (f .wait) js b rules)
+        (along-fields m p e (f .bits) (f .let-go) (f .take) (f .release) js r b rules after)
 
     along-end : (silence now : ℕ) → 1 ≤ silence
         → run L now (ReadyToSend true true) (map shows (replicate silence nobody)) ≡ ended (End now) now
@@ -353,31 +331,30 @@ module _ (L : Limits) where
 
     complete-on : {o r : Outcome} {b : Byte} {rest : List Byte} → Hands o r b → CompleteBy r rest → CompleteBy o (b ∷ rest)
     complete-on {b = b} {rest = rest} h k =
-        subst⁻¹ (λ o. CompleteBy o (b ∷ rest)) (h .is) (record {
-          verdict = k .verdict;
-          ledger =
-              (h .value, h .let-go, h .take, k .ledger);
-        })
+        subst⁻¹ (λ o. CompleteBy o (b ∷ rest)) (h .is)
+        (record { verdict = k .verdict; ledger = (refl, h .let-go-by, h .take-by, k .ledger) })
 
     along-sending : (any : Bool) (now : ℕ) (s : Sending) → SendingRules L s
         → CompleteBy (run L now (ReadyToSend any false) (map shows (sendingTrack s))) (sendingBytes now s)
     unfolding next
-    along-sending any now (more gap f rest) rules =
+    along-sending any now (more gap f wait rest) rules =
         let r = rules .0 in
         complete-on
         (then-hands (along-gap any gap now _ (r .plain .least) (omega (arith, r .plain .most, times .end-mark-in-time)))
-        (along-frame false (ReadyForData any now) (now + gap) f _ (λ d. is-below _ _ _ _ _ (omega (arith, r .plain .most))) (r .frame)))
+        (along-frame false (ReadyForData any now) (now + gap) f _ _ (λ d. is-below _ _ _ _ _ (omega (arith, r .plain .most))) (r .frame)
+        (lets-go false wait _ _ (r .let-go))))
         (along-sending true _ rest (rules .1))
-    along-sending any now (last gap ack resp f silence) rules =
+    along-sending any now (last gap ack resp f wait silence) rules =
         complete-on
         (then-hands (along-mark any gap ack resp now _ (rules .end-mark))
-        (along-frame true (Acknowledged any (now + gap + ack) now) (now + gap + ack + resp) f _
-        (λ d. is-upTo _ _ _ _ _ (omega (arith, rules .end-mark .response-most))) (rules .frame)))
+        (along-frame true (Acknowledged any (now + gap + ack) now) (now + gap + ack + resp) f _ _
+        (λ d. is-upTo _ _ _ _ _ (omega (arith, rules .end-mark .response-most))) (rules .frame)
+        (lets-go true wait _ _ (rules .let-go))))
         (subst⁻¹ (λ o. CompleteBy o []) (along-end silence _ (rules .silent .some)) (record { verdict = refl; ledger = tt }))
 
     -- A plan that keeps the rules is read as complete, with the plan's bytes and each tick the plan's or an earlier one.
     pub along : (p : Plan) → PlanRules L p → CompleteBy (run L 0 Start (map shows (track p))) (planBytes p)
     along p rules =
         subst⁻¹ (λ o. CompleteBy o (planBytes p))
-        (along-start (p .found) (p .hold) (p .wait) _ (rules .first-take) (rules .first-release))
+        (along-start (p .found) (p .hold) (p .wait) _ (rules .first-take) (rules .first-release) (rules .first-let-go))
         (along-sending false _ (p .sending) (rules .sending))

@@ -5,9 +5,8 @@ use mathlib.Core.Path.{_≡_, refl, ap, ap₂, _∙_}
 use mathlib.Core.Bool.{Bool, true, false}
 use mathlib.Core.List.{List, [], _∷_, _++_}
 use lib.Dec.{ltb, leb}
-use lib.ListN.{replicate}
 use borrow.Author.Tests.{lt-ltb, le-ltb, le-leb, lt-leb}
-use Rattle.transfer.specs.Parties.{Pulls, pulls, held, Frame, bitsTrack, handoverTrack, frameTrack}
+use Rattle.transfer.specs.Parties.{Pulls, pulls, Frame, bitsTrack, handoverTrack, frameTrack}
 
 abbrev pub isZero : ℕ → Bool
 isZero zero = true
@@ -48,9 +47,9 @@ ticks-are (suc n) i l t let-go take e f =
 
 -- A frame's track with its handover so.
 abbrev pub frameTicks : Frame → List Pulls → List Pulls
-frameTicks f rest = bitsTrack (f .bits) (handoverTicks (f .release) (f .let-go) (f .take) ++ (replicate (f .wait) held ++ rest))
+frameTicks f rest = bitsTrack (f .bits) (handoverTicks (f .release) (f .let-go) (f .take) ++ rest)
 
 pub frame-ticks : (f : Frame) (rest : List Pulls) → frameTrack f rest ≡ frameTicks f rest
 frame-ticks f rest =
-    ap (λ x. bitsTrack (f .bits) (x ++ (replicate (f .wait) held ++ rest)))
+    ap (λ x. bitsTrack (f .bits) (x ++ rest))
     (ticks-are (f .release) 0 (f .let-go) (f .take) (f .let-go) (f .take) (omega arith) (omega arith))

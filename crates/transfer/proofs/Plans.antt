@@ -16,7 +16,7 @@ use Rattle.transfer.specs.declared.limits.Limits.{Limits}
 use Rattle.transfer.specs.declared.phase.Byte.{Byte}
 use Rattle.transfer.proofs.HandoverTicks.{handoverTicks, frame-ticks}
 use Rattle.transfer.proofs.ByteValue.{takenIn, lastBit, eight-bits}
-use Rattle.transfer.proofs.Shapes.{clockKept, Stays, First, Many, many, joined, Sends, AfterC, HandsOver}
+use Rattle.transfer.proofs.Shapes.{clockKept, Stays, First, Many, many, joined, Sends, AfterHold, HandsOver}
 use Rattle.transfer.proofs.Shapes.{Carries, Handover, opens, carries, Bits}
 use Rattle.transfer.proofs.Shapes.{AfterD}
 
@@ -50,17 +50,16 @@ module _ (L : Limits) where
     let-go : ℕ
     take : ℕ
     release : ℕ
-    wait : ℕ
     rest : List Pulls
     others : List Byte
     handover : HandoverRule L bit8 let-go take
-    releases : ReleaseRule L take release wait
+    releases : ReleaseRule L take release
     tidy : let-go ≤ take
-    is : js ≡ handoverTicks release let-go take ++ (replicate wait held ++ rest)
+    is : js ≡ handoverTicks release let-go take ++ rest
     bytes : l ≡ record { value = value; «let_go» = e + let-go; take = e + take } ∷ others
-    after : AfterC L mark (e + release + wait) rest others
+    after : AfterHold L mark (e + release) rest others
 
-  -- From tick `now` on the receiver holds DATA, until CLK is released, `earliest` or later, and hands the byte over.
+  -- From tick `now` on the receiver holds DATA, until the byte is handed over, `earliest` or later.
   abbrev Holding : (mark : Bool) (value : ℕ) (l : List Byte) (let-go take now earliest : ℕ) → List Pulls → Type 0
   Holding mark value l let-go take now earliest js =
       Stays clockHeld (HandsOver L (record { value = value; «let_go» = let-go; take = take }) mark earliest) now js l
@@ -71,26 +70,23 @@ module _ (L : Limits) where
       → Holding mark value l let-go (e + take) (e + take) (e + take + L .«between_bytes») js′
       → HandoverPlan mark bit8 value e js l
   handover-of mark bit8 value e a t take let-go js js′ l split at sum rule h =
-      let w = many (h .after .after) in
       record {
         let-go = a;
         take = take;
         release = take + h .count;
-        wait = w .count;
-        rest = w .rest;
+        rest = h .rest;
         others = h .after .others;
         handover = rule;
-        releases = record { after-take = omega (arith, h .after .late, h .ends); let-go = w .some };
+        releases = record { after-take = omega (arith, h .after .late, h .ends) };
         tidy = omega arith;
         is =
             split
-            ∙ ap (λ x. replicate a clockKept ++ (replicate t clock ++ x))
-            (h .splits ∙ ap (λ x. replicate (h .count) clockHeld ++ x) (w .splits))
+            ∙ ap (λ x. replicate a clockKept ++ (replicate t clock ++ x)) (h .splits)
             ∙ handover-is a t (h .count) take (take + h .count) _ sum refl;
         bytes =
             h .after .hands
             ∙ ap (λ (x : ℕ). record { value = value; «let_go» = x; take = e + take } ∷ h .after .others) (sym at);
-        after = subst (λ (x : ℕ). AfterC L mark x (w .rest) (h .after .others)) (omega (arith, w .ends, h .ends)) (w .after);
+        after = subst (λ (x : ℕ). AfterHold L mark x (h .rest) (h .after .others)) (omega (arith, h .ends)) (h .after .after);
       }
 
   module _ (times : Consistent L) where
@@ -195,12 +191,12 @@ module _ (L : Limits) where
       others : List Byte
       is : js ≡ frameTrack frame rest
       bytes : l ≡ byteOf e frame ∷ others
-      after : AfterC L mark (afterFrame e frame) rest others
+      after : AfterHold L mark (afterFrame e frame) rest others
 
     frame-of : (mark : Bool) (e : ℕ) (js : List Pulls) (l : List Byte) → BitsPlan mark false 8 0 e js l → FramePlan mark e js l
     frame-of mark e js l x =
         let h = x .after in
-        let f : Frame = record { bits = x .bits; let-go = h .let-go; take = h .take; release = h .release; wait = h .wait } in
+        let f : Frame = record { bits = x .bits; let-go = h .let-go; take = h .take; release = h .release } in
         record {
           frame = f;
           rules =
@@ -217,7 +213,7 @@ module _ (L : Limits) where
               h .bytes
               ∙ ap₂ (λ (v t : ℕ). record { value = v; «let_go» = t + h .let-go; take = t + h .take } ∷ h .others)
               (eight-bits (x .bits) (x .number)) (sym (x .ends));
-          after = subst⁻¹ (λ (t : ℕ). AfterC L mark (t + h .release + h .wait) (h .rest) (h .others)) (x .ends) (h .after);
+          after = subst⁻¹ (λ (t : ℕ). AfterHold L mark (t + h .release) (h .rest) (h .others)) (x .ends) (h .after);
         }
 
     frame-plan : (mark : Bool) (e : ℕ) (js : List Pulls) (l : List Byte) → Bits L mark 8 0 false e js l → FramePlan mark e js l
@@ -226,30 +222,38 @@ module _ (L : Limits) where
     sends-more : (now gap e : ℕ) (js js′ : List Pulls) (l : List Byte) → PlainRule L gap → now + gap ≡ e
         → js ≡ replicate gap nobody ++ js′ → FramePlan false e js′ l → Sends L now js l
     sends-more now gap e js js′ l rule ends split f =
-        let s = f .after in
+        let w = many (f .after) in
+        let s = w .after in
         record {
-          plan = more gap (f .frame) (s .plan);
-          rules = (record { plain = rule; frame = f .rules }, s .rules);
+          plan = more gap (f .frame) (w .count) (s .plan);
+          rules = (record { plain = rule; frame = f .rules; let-go = record { later = w .some } }, s .rules);
           tidy = (f .tidy, s .tidy);
-          is = split ∙ ap (λ x. replicate gap nobody ++ x) (f .is ∙ ap (frameTrack (f .frame)) (s .is));
+          is =
+              split
+              ∙ ap (λ x. replicate gap nobody ++ x)
+              (f .is ∙ ap (frameTrack (f .frame)) (w .splits ∙ ap (λ x. replicate (w .count) held ++ x) (s .is)));
           bytes =
               f .bytes
               ∙ ap (λ x. byteOf e (f .frame) ∷ x) (s .bytes)
-              ∙ ap (λ (x : ℕ). byteOf x (f .frame) ∷ sendingBytes (afterFrame x (f .frame)) (s .plan)) (sym ends);
+              ∙ ap₂ (λ (x y : ℕ). byteOf x (f .frame) ∷ sendingBytes y (s .plan)) (sym ends) (omega (arith, w .ends));
         }
 
     sends-last : (now gap ack resp e : ℕ) (js js′ : List Pulls) (l : List Byte) → EndMarkRule L gap ack resp → now + gap + ack + resp ≡ e
         → js ≡ replicate gap nobody ++ (replicate ack held ++ (replicate resp nobody ++ js′)) → FramePlan true e js′ l → Sends L now js l
     sends-last now gap ack resp e js js′ l rule ends split f =
-        let s = f .after in
+        let w = many (f .after) in
+        let s = w .after in
         record {
-          plan = last gap ack resp (f .frame) (suc (s .after .count));
-          rules = record { end-mark = rule; frame = f .rules; silent = record { some = omega arith } };
+          plan = last gap ack resp (f .frame) (w .count) (suc (s .after .count));
+          rules =
+              record { end-mark = rule; frame = f .rules; let-go = record { later = w .some }; silent = record { some = omega arith } };
           tidy = f .tidy;
           is =
               split
               ∙ ap (λ x. replicate gap nobody ++ (replicate ack held ++ (replicate resp nobody ++ x)))
-              (f .is ∙ ap (frameTrack (f .frame)) (s .splits ∙ ap (λ x. nobody ∷ x) (s .after .is)));
+              (f .is
+              ∙ ap (frameTrack (f .frame))
+              (w .splits ∙ ap (λ x. replicate (w .count) held ++ x) (s .splits ∙ ap (λ x. nobody ∷ x) (s .after .is))));
           bytes = f .bytes ∙ ap₂ (λ (x : ℕ) y. byteOf x (f .frame) ∷ y) (sym ends) (s .after .bytes);
         }
 

@@ -89,8 +89,8 @@ module _ {p : Pulls} {K : Rest} {now : ℕ} {js : List Pulls} {l : List Byte} wh
 
 -- A plan in which the sender has let go when the receiver takes.
 abbrev pub Tidy : Sending → Type 0
-Tidy (more gap f rest) = (f .let-go ≤ f .take) × Tidy rest
-Tidy (last gap acknowledgement response f silence) = f .let-go ≤ f .take
+Tidy (more gap f wait rest) = (f .let-go ≤ f .take) × Tidy rest
+Tidy (last gap acknowledgement response f wait silence) = f .let-go ≤ f .take
 
 module _ (L : Limits) where
   -- The rest is what a plan that keeps the rules sends from here on.
@@ -112,12 +112,16 @@ module _ (L : Limits) where
   AfterC true now js l = First nobody Silent now js l
   AfterC false now js l = Sends now js l
 
-  -- The release of CLK that hands b over, `earliest` or later, and C.
+  -- After a hold: the release of CLK, and C.
+  abbrev pub AfterHold : (end-mark : Bool) → Rest
+  AfterHold end-mark = First held (Stays held (AfterC end-mark))
+
+  -- b is handed over, `earliest` or later.
   pub record HandsOver (b : Byte) (end-mark : Bool) (earliest : ℕ) (now : ℕ) (js : List Pulls) (l : List Byte) : Type 0 where
     pub late : earliest ≤ now
     pub others : List Byte
     pub hands : l ≡ b ∷ others
-    pub after : First held (Stays held (AfterC end-mark)) now js others
+    pub after : AfterHold end-mark now js others
 
   -- B
   abbrev pub Holds : Byte → (end-mark : Bool) → Rest

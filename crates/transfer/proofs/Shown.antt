@@ -144,14 +144,14 @@ module _ (b : Byte) (l : List Byte) where
 
 module _ (L : Limits) (times : Consistent L) where
   -- A byte whose bits begin at tick `now`.
-  shows-fields : (bits : List Bit) (k t n wait now : ℕ) (l : List Byte) (js : List Pulls)
-      → let f : Frame = record { bits = bits; let-go = k; take = t; release = n; wait = wait } in
+  shows-fields : (bits : List Bit) (k t n now : ℕ) (l : List Byte) (js : List Pulls)
+      → let f : Frame = record { bits = bits; let-go = k; take = t; release = n } in
       FrameRules L f → k ≤ t
       → shownFrom now (waiting (byteOf now f ∷ l)) (map shows (frameTicks f js))
-      ≡ frameTicks f (shownFrom (afterFrame now f) (waiting l) (map shows js))
-  shows-fields [] k t n wait now l js rules tidy = absurd (omega (arith, rules .bits .eight))
-  shows-fields (x ∷ xs) k t n wait now l js rules tidy =
-      let b = byteOf now (record { bits = x ∷ xs; let-go = k; take = t; release = n; wait = wait }) in
+      ≡ frameTicks f (shownFrom (afterFrame now f) (holding l) (map shows js))
+  shows-fields [] k t n now l js rules tidy = absurd (omega (arith, rules .bits .eight))
+  shows-fields (x ∷ xs) k t n now l js rules tidy =
+      let b = byteOf now (record { bits = x ∷ xs; let-go = k; take = t; release = n }) in
       begins b l now (x .first) _
       ∙ ap (λ y. sets (x .first) ∷ y)
       (sends-bit b l x (suc now) _ (omega arith)
@@ -159,16 +159,14 @@ module _ (L : Limits) (times : Consistent L) where
       (sends-bits b l xs (suc now + length (x .others) + x .valid) _ (omega arith)
       ∙ ap (bitsTrack xs)
       (sends-handover b l k t n _ _ (omega arith) tidy (omega (arith, rules .release .after-take, times .keep-some, times .keep-release))
-      ∙ ap (λ y. handoverTicks n k t ++ y)
-      (holds-waits wait _ l js (rules .release .let-go)
-      ∙ ap (λ y. replicate wait held ++ y) (at-tick (waiting l) (map shows js) (omega arith))))))
+      ∙ ap (λ y. handoverTicks n k t ++ y) (at-tick (holding l) (map shows js) (omega arith)))))
 
   shows-frame : (f : Frame) (now : ℕ) (l : List Byte) (js : List Pulls) → FrameRules L f → f .let-go ≤ f .take
       → shownFrom now (waiting (byteOf now f ∷ l)) (map shows (frameTrack f js))
-      ≡ frameTrack f (shownFrom (afterFrame now f) (waiting l) (map shows js))
+      ≡ frameTrack f (shownFrom (afterFrame now f) (holding l) (map shows js))
   shows-frame f now l js rules tidy =
       ap (λ (js : List Pulls). shownFrom now (waiting (byteOf now f ∷ l)) (map shows js)) (frame-ticks f js)
-      ∙ shows-fields (f .bits) (f .let-go) (f .take) (f .release) (f .wait) now l js rules tidy
+      ∙ shows-fields (f .bits) (f .let-go) (f .take) (f .release) now l js rules tidy
       ∙ sym (frame-ticks f _)
 
   shows-end : (n now : ℕ) → shownFrom now (waiting []) (map shows (replicate n nobody)) ≡ replicate n nobody
@@ -178,12 +176,14 @@ module _ (L : Limits) (times : Consistent L) where
 
   shows-sending : (now : ℕ) (s : Sending) → SendingRules L s → Tidy s
       → shownFrom now (waiting (sendingBytes now s)) (map shows (sendingTrack s)) ≡ sendingTrack s
-  shows-sending now (more gap f rest) rules tidy =
+  shows-sending now (more gap f wait rest) rules tidy =
       waits-on false gap now _ _
       ∙ ap (λ x. replicate gap nobody ++ x)
       (shows-frame f (now + gap) _ _ (rules .0 .frame) (tidy .0)
-      ∙ ap (frameTrack f) (shows-sending (afterFrame (now + gap) f) rest (rules .1) (tidy .1)))
-  shows-sending now (last gap ack resp f silence) rules tidy =
+      ∙ ap (frameTrack f)
+      (holds-waits wait (afterFrame (now + gap) f) _ _ (rules .0 .let-go .later)
+      ∙ ap (λ x. replicate wait held ++ x) (shows-sending (afterFrame (now + gap) f + wait) rest (rules .1) (tidy .1))))
+  shows-sending now (last gap ack resp f wait silence) rules tidy =
       waits-on false gap now _ _
       ∙ ap (λ x. replicate gap nobody ++ x)
       (waits-on true ack (now + gap) _ _
@@ -191,7 +191,9 @@ module _ (L : Limits) (times : Consistent L) where
       (waits-on false resp (now + gap + ack) _ _
       ∙ ap (λ x. replicate resp nobody ++ x)
       (shows-frame f (now + gap + ack + resp) [] _ (rules .frame) tidy
-      ∙ ap (frameTrack f) (shows-end silence (afterFrame (now + gap + ack + resp) f)))))
+      ∙ ap (frameTrack f)
+      (holds-waits wait (afterFrame (now + gap + ack + resp) f) _ _ (rules .let-go .later)
+      ∙ ap (λ x. replicate wait held ++ x) (shows-end silence (afterFrame (now + gap + ack + resp) f + wait))))))
 
   pub shows-plan : (p : Plan) → PlanRules L p → Tidy (p .sending) → shown (planBytes p) (map shows (track p)) ≡ track p
   shows-plan p rules tidy =
@@ -200,5 +202,5 @@ module _ (L : Limits) (times : Consistent L) where
       (at-tick (holding (planBytes p)) _ (omega arith)
       ∙ holds-on true (p .hold) (p .found) _ _
       ∙ ap (λ x. replicate (p .hold) clockHeld ++ x)
-      (holds-waits (p .wait) (p .found + p .hold) _ _ (rules .first-release .let-go)
+      (holds-waits (p .wait) (p .found + p .hold) _ _ (rules .first-let-go .later)
       ∙ ap (λ x. replicate (p .wait) held ++ x) (shows-sending (p .found + p .hold + p .wait) (p .sending) (rules .sending) tidy)))

@@ -44,7 +44,7 @@ byte80 let-go take =
       found = 0;
       hold = 1;
       wait = 1;
-      sending = last 200 60 1 (record { bits = bits; let-go = let-go; take = take; release = 160; wait = 1 }) 1;
+      sending = last 200 60 1 (record { bits = bits; let-go = let-go; take = take; release = 160 }) 1 1;
     }
 
 pub record TwoPairs : Type 0 where

@@ -43,19 +43,19 @@ pub record Bit : Type 0 where
   pub valid : ℕ
 
 -- A byte as it is sent: its bits, then, counted from the CLK pull after bit 8, the offsets of the sender's letting go of DATA (0 where it
--- doesn't pull on), of the receiver's take and of the sender's release of CLK; then the ticks until the receiver lets go.
+-- doesn't pull on), of the receiver's take and of the sender's release of CLK.
 pub record Frame : Type 0 where
   pub bits : List Bit
   pub let-go : ℕ
   pub take : ℕ
   pub release : ℕ
-  pub wait : ℕ
 
--- From a letting go on: the ticks to the CLK pull, a byte that is not the last, and what follows it; or the last byte: the
--- ticks to the receiver's pull, those of the pull, those to the CLK pull, the byte, and the ticks from the last letting go on.
+-- From a letting go on: the ticks to the CLK pull, a byte that is not the last, the ticks until the receiver lets go, and what follows;
+-- or the last byte: the ticks to the receiver's pull, those of the pull, those to the CLK pull, the byte, the ticks until the receiver
+-- lets go, and those from this last letting go on.
 pub data Sending : Type 0 where
-  more : (gap : ℕ) → Frame → Sending → Sending
-  last : (gap acknowledgement response : ℕ) → Frame → (silence : ℕ) → Sending
+  more : (gap : ℕ) → Frame → (wait : ℕ) → Sending → Sending
+  last : (gap acknowledgement response : ℕ) → Frame → (wait silence : ℕ) → Sending
 
 -- The receiver takes DATA at tick `found`; the sender releases CLK `hold` ticks later; the receiver lets go `wait` ticks later.
 pub record Plan : Type 0 where
@@ -83,16 +83,15 @@ handoverTrack let-go take offset zero = []
 handoverTrack let-go take offset (suc n) = handoverTick let-go take offset ∷ handoverTrack let-go take (suc offset) n
 
 abbrev pub frameTrack : Frame → List Pulls → List Pulls
-frameTrack f rest =
-    bitsTrack (f .bits) (handoverTrack (f .let-go) (f .take) 0 (f .release) ++ (replicate (f .wait) held ++ rest))
+frameTrack f rest = bitsTrack (f .bits) (handoverTrack (f .let-go) (f .take) 0 (f .release) ++ rest)
 
 abbrev pub sendingTrack : Sending → List Pulls
-sendingTrack (more gap f rest) = replicate gap nobody ++ frameTrack f (sendingTrack rest)
-sendingTrack (last gap acknowledgement response f silence) =
+sendingTrack (more gap f wait rest) = replicate gap nobody ++ frameTrack f (replicate wait held ++ sendingTrack rest)
+sendingTrack (last gap acknowledgement response f wait silence) =
     replicate gap nobody
     ++ (replicate acknowledgement held
     ++ (replicate response nobody
-    ++ frameTrack f (replicate silence nobody)))
+    ++ frameTrack f (replicate wait held ++ replicate silence nobody)))
 
 -- Both tracks, from tick 0 on.
 abbrev pub track : Plan → List Pulls
@@ -121,13 +120,13 @@ byteOf now f =
       take = now + bitsTicks (f .bits) + f .take;
     }
 
--- The tick of the letting go that ends a byte.
+-- The tick of the release of CLK that ends a byte.
 abbrev pub afterFrame : (now : ℕ) → Frame → ℕ
-afterFrame now f = now + bitsTicks (f .bits) + f .release + f .wait
+afterFrame now f = now + bitsTicks (f .bits) + f .release
 
 abbrev pub sendingBytes : (now : ℕ) → Sending → List Byte
-sendingBytes now (more gap f rest) = byteOf (now + gap) f ∷ sendingBytes (afterFrame (now + gap) f) rest
-sendingBytes now (last gap acknowledgement response f silence) = byteOf (now + gap + acknowledgement + response) f ∷ []
+sendingBytes now (more gap f wait rest) = byteOf (now + gap) f ∷ sendingBytes (afterFrame (now + gap) f + wait) rest
+sendingBytes now (last gap acknowledgement response f wait silence) = byteOf (now + gap + acknowledgement + response) f ∷ []
 
 -- The bytes that a plan sends, each with its two ticks.
 abbrev pub planBytes : Plan → List Byte

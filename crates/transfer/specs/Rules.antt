@@ -22,15 +22,17 @@ module _ (L : Limits) where
   pub record FirstTakeRule (found : ℕ) : Type 0 where
     pub in-time : found ≤ L .presence
 
-  -- "The sender releases CLK 1 or more ticks after that take; .." "The receiver lets go 1 or more ticks later."
-  pub record FirstReleaseRule (hold wait : ℕ) : Type 0 where
-    pub release : 1 ≤ hold
-    pub let-go : 1 ≤ wait
+  -- "The sender releases CLK 1 or more ticks after that take; .."
+  pub record FirstReleaseRule (hold : ℕ) : Type 0 where
+    pub after-take : 1 ≤ hold
 
-  -- ".. for later bytes, and after the last, 100 or more after the latest take. The receiver lets go 1 or more ticks later."
-  pub record ReleaseRule (take release wait : ℕ) : Type 0 where
+  -- ".. for later bytes, and after the last, 100 or more after the latest take."
+  pub record ReleaseRule (take release : ℕ) : Type 0 where
     pub after-take : take + L .«between_bytes» ≤ release
-    pub let-go : 1 ≤ wait
+
+  -- "The receiver lets go 1 or more ticks later."
+  pub record LetGoRule (wait : ℕ) : Type 0 where
+    pub later : 1 ≤ wait
 
   -- "Not the last byte: the sender pulls CLK 1 to 199 ticks after the letting go."
   pub record PlainRule (gap : ℕ) : Type 0 where
@@ -79,22 +81,25 @@ module _ (L : Limits) where
   pub record FrameRules (f : Frame) : Type 0 where
     pub bits : EightBitsRule (f .bits)
     pub handover : HandoverRule (bitEight (f .bits)) (f .let-go) (f .take)
-    pub release : ReleaseRule (f .take) (f .release) (f .wait)
+    pub release : ReleaseRule (f .take) (f .release)
 
-  pub record MoreRules (gap : ℕ) (f : Frame) : Type 0 where
+  pub record MoreRules (gap : ℕ) (f : Frame) (wait : ℕ) : Type 0 where
     pub plain : PlainRule gap
     pub frame : FrameRules f
+    pub let-go : LetGoRule wait
 
-  pub record LastRules (gap acknowledgement response : ℕ) (f : Frame) (silence : ℕ) : Type 0 where
+  pub record LastRules (gap acknowledgement response : ℕ) (f : Frame) (wait silence : ℕ) : Type 0 where
     pub end-mark : EndMarkRule gap acknowledgement response
     pub frame : FrameRules f
+    pub let-go : LetGoRule wait
     pub silent : SilenceRule silence
 
   abbrev pub SendingRules : Sending → Type 0
-  SendingRules (more gap f rest) = MoreRules gap f × SendingRules rest
-  SendingRules (last gap acknowledgement response f silence) = LastRules gap acknowledgement response f silence
+  SendingRules (more gap f wait rest) = MoreRules gap f wait × SendingRules rest
+  SendingRules (last gap acknowledgement response f wait silence) = LastRules gap acknowledgement response f wait silence
 
   pub record PlanRules (p : Plan) : Type 0 where
     pub first-take : FirstTakeRule (p .found)
-    pub first-release : FirstReleaseRule (p .hold) (p .wait)
+    pub first-release : FirstReleaseRule (p .hold)
+    pub first-let-go : LetGoRule (p .wait)
     pub sending : SendingRules (p .sending)

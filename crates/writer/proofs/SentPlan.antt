@@ -29,21 +29,15 @@ module _ (card : Card) where
   bitsOf zero value = []
   bitsOf (suc k) value = bitOf (odd value) ∷ bitsOf k (value / 2)
 
-  -- A byte: after bit 8 the sender doesn't pull DATA on. The hold and the ready time that follow are those of the next byte or, after
-  -- the last, the closing ones.
+  -- A byte: after bit 8 the sender doesn't pull DATA on. The hold, and then the ready time, are those of the next byte or, after the last,
+  -- the closing ones.
   abbrev pub frameOf : (value : ℕ) → Frame
-  frameOf value =
-      record {
-        bits = bitsOf 8 value;
-        let-go = 0;
-        take = card .take;
-        release = card .take + card .hold;
-        wait = card .«ready_to_send»;
-      }
+  frameOf value = record { bits = bitsOf 8 value; let-go = 0; take = card .take; release = card .take + card .hold }
 
   abbrev pub sendingOf : (first : ℕ) (others : List ℕ) → Sending
-  sendingOf first [] = last (card .«end_gap») (card .acknowledgement) (card .response) (frameOf first) (card .silence)
-  sendingOf first (second ∷ others) = more (card .gap) (frameOf first) (sendingOf second others)
+  sendingOf first [] =
+      last (card .«end_gap») (card .acknowledgement) (card .response) (frameOf first) (card .«ready_to_send») (card .silence)
+  sendingOf first (second ∷ others) = more (card .gap) (frameOf first) (card .«ready_to_send») (sendingOf second others)
 
   abbrev pub planOf : (first : ℕ) (others : List ℕ) → Plan
   planOf first others = record { found = 0; hold = card .hold; wait = card .«ready_to_send»; sending = sendingOf first others }

@@ -67,9 +67,16 @@ module _ {L : Limits} {card : Card} (in-time : InTime L card) where
       }
 
   sending-keeps : (first : ℕ) (others : List ℕ) → SendingRules L (sendingOf card first others)
-  sending-keeps first [] = record { end-mark = search needs; frame = frame-keeps first; silent = search needs }
-  sending-keeps first (second ∷ others) = (record { plain = search needs; frame = frame-keeps first }, sending-keeps second others)
+  sending-keeps first [] =
+      record { end-mark = search needs; frame = frame-keeps first; let-go = search needs; silent = search needs }
+  sending-keeps first (second ∷ others) =
+      (record { plain = search needs; frame = frame-keeps first; let-go = search needs }, sending-keeps second others)
 
   pub plan-keeps : (first : ℕ) (others : List ℕ) → PlanRules L (planOf card first others)
   plan-keeps first others =
-      record { first-take = search needs; first-release = search needs; sending = sending-keeps first others }
+      record {
+        first-take = search needs;
+        first-release = search needs;
+        first-let-go = search needs;
+        sending = sending-keeps first others;
+      }

@@ -69,13 +69,11 @@ module _ (card : Card) (some : 1 ≤ card .«set_up») where
       (gives-step (sets (odd value)) (bit-lines true (value % 2) (omega arith))
       (gives-step (offers (odd value)) (bit-lines false (value % 2) (omega arith)) (gives-bits k (value / 2) rest)))
 
-  -- A byte from its bits on: the steps that follow begin with the receiver's hold and its wait.
-  gives-frame : (value : ℕ) (js : List Pulls) {steps : List Step}
-      → Gives (replicate (card .hold) clockHeld ++ (replicate (card .«ready_to_send») held ++ js)) steps
+  -- A byte from its bits on: the steps that follow begin with the receiver's hold.
+  gives-frame : (value : ℕ) (js : List Pulls) {steps : List Step} → Gives (replicate (card .hold) clockHeld ++ js) steps
       → Gives (frameTrack (frameOf card value) js) (bitSteps card 8 value ++ (shows 1 0 (card .take) ∷ []) ++ steps)
   gives-frame value js rest =
-      let js-held = replicate (card .«ready_to_send») held ++ js in
-      let taken = handover-is 0 (card .take) (card .hold) (card .take) (card .take + card .hold) js-held (omega arith) refl in
+      let taken = handover-is 0 (card .take) (card .hold) (card .take) (card .take + card .hold) js (omega arith) refl in
       rw (frame-ticks, ← taken, append-assoc) (gives-bits 8 value (gives-step clock refl rest))
 
   -- The steps of one byte or more.
