@@ -105,26 +105,18 @@ module _ (L : Limits) where
     shape : Shape L p now js l
 
   -- One tick j, by which a phase leads to another or stays, or hands a byte over.
-  module _ (j : Pulls) (p q : Phase) (now : ℕ) (w : List Lines) (o : Outcome) where
-    goes : ((js : List Pulls) (l : List Byte) → Shape L q (suc now) js l → Shape L p now (j ∷ js) l)
-        → Sound (From q (suc now) w) o → Sound (From p now (shows j ∷ w)) o
-    goes f s =
-        record {
-          prove =
-              λ h.
-              let r = s .prove h in
-              record { js = j ∷ r .js; gives = ap (λ x. shows j ∷ x) (r .gives); shape = f (r .js) (o .bytes) (r .shape) };
-        }
+  module _ (j : Pulls) {p q : Phase} {now : ℕ} {w : List Lines} where
+    comes-first : {l l′ : List Byte} → ((js : List Pulls) → Shape L q (suc now) js l → Shape L p now (j ∷ js) l′)
+        → From q (suc now) w l → From p now (shows j ∷ w) l′
+    comes-first f r = record { js = j ∷ r .js; gives = ap (λ x. shows j ∷ x) (r .gives); shape = f (r .js) (r .shape) }
 
-    hands : (b : Byte) → ((js : List Pulls) (l : List Byte) → Shape L q (suc now) js l → Shape L p now (j ∷ js) (b ∷ l))
+    goes : {o : Outcome} → ((js : List Pulls) (l : List Byte) → Shape L q (suc now) js l → Shape L p now (j ∷ js) l)
+        → Sound (From q (suc now) w) o → Sound (From p now (shows j ∷ w)) o
+    goes f s = record { prove = λ h. comes-first (λ js. f js _) (s .prove h) }
+
+    hands : {o : Outcome} (b : Byte) → ((js : List Pulls) (l : List Byte) → Shape L q (suc now) js l → Shape L p now (j ∷ js) (b ∷ l))
         → Sound (From q (suc now) w) o → Sound (From p now (shows j ∷ w)) (give b o)
-    hands b f s =
-        record {
-          prove =
-              λ h.
-              let r = s .prove h in
-              record { js = j ∷ r .js; gives = ap (λ x. shows j ∷ x) (r .gives); shape = f (r .js) (o .bytes) (r .shape) };
-        }
+    hands b f s = record { prove = λ h. comes-first (λ js. f js _) (s .prove h) }
 
   abbrev Holds : List Lines → Type 0
   Holds w = (now : ℕ) (p : Phase) → InTime p now → Sound (From p now w) (run L now p w)
@@ -142,27 +134,24 @@ module _ (L : Limits) where
           else Stop Fault.OutOfTurn) now (λ (q : Phase). run L (suc now) q w))
       at true = dead _ _ _
       at false = dead _ _ _
-  row-start true true now w ih i = goes clockHeld Start FirstHold now w _ (λ js l h. leaves (i, one h)) (ih (suc now) FirstHold tt)
-  row-start true false now w ih i = if-below _ _ _ _ _ _ _ (λ a. goes clock Start Start now w _ (λ js l h. stay h) (ih
-      (suc now) Start (omega arith)))
+  row-start true true now w ih i = goes clockHeld (λ js l h. leaves (i, one h)) (ih (suc now) FirstHold tt)
+  row-start true false now w ih i = if-below _ _ _ _ _ _ _ (λ a. goes clock (λ js l h. stay h) (ih (suc now) Start (omega arith)))
 
   row-first-hold : (c d : Bool) → Row FirstHold c d
   unfolding next
-  row-first-hold true true now w ih i = goes clockHeld FirstHold FirstHold now w _ (λ js l h. stay h) (ih (suc now) FirstHold tt)
-  row-first-hold false true now w ih i =
-      goes held FirstHold (ReadyToSend false false) now w _ (λ js l h. leaves (one h)) (ih (suc now) (ReadyToSend false false) tt)
+  row-first-hold true true now w ih i = goes clockHeld (λ js l h. stay h) (ih (suc now) FirstHold tt)
+  row-first-hold false true now w ih i = goes held (λ js l h. leaves (one h)) (ih (suc now) (ReadyToSend false false) tt)
   row-first-hold true false now w ih i = dead _ _ _
   row-first-hold false false now w ih i = dead _ _ _
 
   row-hold : (m : Bool) (v t g : ℕ) (c d : Bool) → Row (Hold m v t g) c d
   unfolding next
-  row-hold m v t g true true now w ih i =
-      goes clockHeld (Hold m v t g) (Hold m v t g) now w _ (λ js l h. stay h) (ih (suc now) (Hold m v t g) tt)
+  row-hold m v t g true true now w ih i = goes clockHeld (λ js l h. stay h) (ih (suc now) (Hold m v t g) tt)
   row-hold m v t g false true now w ih i =
       unless-below _ _ _ _ _ _ _
-      (λ late.
-      hands held (Hold m v t g) (ReadyToSend true m) now w _ (record { value = v; «let_go» = g; take = t })
-      (λ js l h. leaves (record { late = late; others = l; hands = refl; after = one h })) (ih (suc now) (ReadyToSend true m) tt))
+      (λ late. hands held (record { value = v; «let_go» = g; take = t })
+      (λ js l h. leaves (record { late = late; others = l; hands = refl; after = one h }))
+      (ih (suc now) (ReadyToSend true m) tt))
   row-hold m v t g true false now w ih i = dead _ _ _
   row-hold m v t g false false now w ih i = dead _ _ _
 
@@ -170,32 +159,25 @@ module _ (L : Limits) where
   unfolding next
   row-acknowledgement any s ready true d now w ih i = dead _ _ _
   row-acknowledgement any s ready false true now w ih i =
-      if-below _ _ _ _ _ _ _
-      (λ a.
-      goes held (Acknowledgement any s ready) (Acknowledgement any s ready) now w _ (λ js l h. stay h)
-      (ih (suc now) (Acknowledgement any s ready) (omega arith)))
+      if-below _ _ _ _ _ _ _ (λ a. goes held (λ js l h. stay h) (ih (suc now) (Acknowledgement any s ready) (omega arith)))
   row-acknowledgement any s ready false false now w ih i =
       unless-below _ _ _ _ _ _ _
-      (λ a.
-      goes nobody (Acknowledgement any s ready) (Acknowledged any now ready) now w _ (λ js l h. leaves (a, i, one h))
-      (ih (suc now) (Acknowledged any now ready) tt))
+      (λ a. goes nobody (λ js l h. leaves (a, i, one h)) (ih (suc now) (Acknowledged any now ready) tt))
 
   row-end : (f : ℕ) (c d : Bool) → Row (End f) c d
   unfolding next
   row-end f true d now w ih i = dead _ _ _
   row-end f false true now w ih i = dead _ _ _
   row-end f false false now w ih i =
-      goes nobody (End f) (End f) now w _
-      (λ js l h. record { count = suc (h .count); is = ap (λ x. nobody ∷ x) (h .is); bytes = h .bytes }) (ih (suc now) (End f) tt)
+      goes nobody (λ js l h. record { count = suc (h .count); is = ap (λ x. nobody ∷ x) (h .is); bytes = h .bytes })
+      (ih (suc now) (End f) tt)
 
   row-open : (m : Bool) (v s l : ℕ) (c d : Bool) → Row (Open m v s l) c d
   unfolding next
   row-open m v s l false d now w ih i = dead _ _ _
   row-open m v s l true false now w ih i =
-      if-below _ _ _ _ _ _ _ (λ a. goes clock (Open m v s l) (Open m v s l) now w _ (λ js l h. stay h) (ih (suc now)
-      (Open m v s l) (omega arith)))
-  row-open m v s l true true now w ih i =
-      goes clockHeld (Open m v s l) (Hold m v now l) now w _ (λ js l h. leaves (i, one h)) (ih (suc now) (Hold m v now l) tt)
+      if-below _ _ _ _ _ _ _ (λ a. goes clock (λ js l h. stay h) (ih (suc now) (Open m v s l) (omega arith)))
+  row-open m v s l true true now w ih i = goes clockHeld (λ js l h. leaves (i, one h)) (ih (suc now) (Hold m v now l) tt)
 
   module _ (times : Consistent L) where
     row-carried : (m : Bool) (v s : ℕ) (c d : Bool) → Row (Carried m v s) c d
@@ -212,54 +194,42 @@ module _ (L : Limits) where
         on l r = by-shape l (r .js) (r .gives) (r .shape)
     row-carried m v s true false now w ih i =
         if-upTo _ _ _ _ _ _ _
-        (λ a.
-        goes clock (Carried m v s) (Open m v s now) now w _ (λ js l h. inl (leaves (a, one h)))
-        (ih (suc now) (Open m v s now) (omega (arith, times .keep-take))))
+        (λ a. goes clock (λ js l h. inl (leaves (a, one h))) (ih (suc now) (Open m v s now) (omega (arith, times .keep-take))))
     row-carried m v s false true now w ih i =
         unless-upTo _ _ _ _ _ _ _
-        (λ late.
-        hands held (Carried m v s) (ReadyToSend true m) now w _ (record { value = v; «let_go» = s + 1; take = s + 1 })
-        (λ js l h. inr (leaves (record { late = late; others = l; hands = refl; after = one h }))) (ih (suc now) (ReadyToSend true m) tt))
+        (λ late. hands held (record { value = v; «let_go» = s + 1; take = s + 1 })
+        (λ js l h. inr (leaves (record { late = late; others = l; hands = refl; after = one h })))
+        (ih (suc now) (ReadyToSend true m) tt))
 
     row-ready-for-data : (any : Bool) (s : ℕ) (c d : Bool) → Row (ReadyForData any s) c d
     unfolding next
     row-ready-for-data any s true d now w ih i =
         if-below _ _ _ _ _ _ _
-        (λ a.
-        goes (sets d) (ReadyForData any s) (SetUp false 0 d now 7) now w _ (λ js l h. leaves (inl (a, (d, one h))))
+        (λ a. goes (sets d) (λ js l h. leaves (inl (a, (d, one h))))
         (ih (suc now) (SetUp false 0 d now 7) (omega (arith, times .set-up-some))))
     row-ready-for-data any s false true now w ih i =
         unless-below _ _ _ _ _ _ _
-        (λ a.
-        goes held (ReadyForData any s) (Acknowledgement any now s) now w _ (λ js l h. leaves (inr (a, i, one h)))
+        (λ a. goes held (λ js l h. leaves (inr (a, i, one h)))
         (ih (suc now) (Acknowledgement any now s) (omega (arith, times .acknowledge-some, times .acknowledge-room))))
     row-ready-for-data any s false false now w ih i =
-        if-below _ _ _ _ _ _ _
-        (λ a. goes nobody (ReadyForData any s) (ReadyForData any s) now w _ (λ js l h. stay h) (ih (suc now)
-        (ReadyForData any s) (omega arith)))
+        if-below _ _ _ _ _ _ _ (λ a. goes nobody (λ js l h. stay h) (ih (suc now) (ReadyForData any s) (omega arith)))
 
     row-acknowledged : (any : Bool) (s ready : ℕ) (c d : Bool) → Row (Acknowledged any s ready) c d
     unfolding next
     row-acknowledged any s ready false true now w ih i = dead _ _ _
     row-acknowledged any s ready true d now w ih i =
         if-upTo _ _ _ _ _ _ _
-        (λ a.
-        goes (sets d) (Acknowledged any s ready) (SetUp true 0 d now 7) now w _ (λ js l h. leaves (a, (d, one h)))
-        (ih (suc now) (SetUp true 0 d now 7) (omega (arith, times .set-up-some))))
+        (λ a. goes (sets d) (λ js l h. leaves (a, (d, one h))) (ih (suc now) (SetUp true 0 d now 7) (omega (arith, times .set-up-some))))
     row-acknowledged false s ready false false now w ih i =
-        if-below _ _ _ _ _ _ _
-        (λ a. goes nobody (Acknowledged false s ready) (Acknowledged false s ready) now w _ (λ js l h. stay h) (ih (suc now)
-        (Acknowledged false s ready) tt))
+        if-below _ _ _ _ _ _ _ (λ a. goes nobody (λ js l h. stay h) (ih (suc now) (Acknowledged false s ready) tt))
     row-acknowledged true s ready false false now w ih i =
-        if-below _ _ _ _ _ _ _
-        (λ a. goes nobody (Acknowledged true s ready) (Acknowledged true s ready) now w _ (λ js l h. stay h) (ih (suc now)
-        (Acknowledged true s ready) tt))
+        if-below _ _ _ _ _ _ _ (λ a. goes nobody (λ js l h. stay h) (ih (suc now) (Acknowledged true s ready) tt))
 
     -- The last set-up tick shows b, and the first valid tick too.
     to-valid : (m : Bool) (left v s : ℕ) (b : Bool) (now : ℕ) (w : List Lines) → Holds w → InTime (SetUp m v b s left) now
         → Sound (From (SetUp m v b s left) now (lines false b ∷ w)) (run L (suc now) (Valid m v b now left) w)
     to-valid m left v s b now w ih i =
-        goes (offers b) (SetUp m v b s left) (Valid m v b now left) now w _
+        goes (offers b)
         (λ js l h. record { pulled = []; till = now; rest = offers b ∷ js; ends = omega arith; fits = i; splits = refl; after = one h })
         (ih (suc now) (Valid m v b now left) (omega (arith, times .valid-some, times .valid-room)))
 
@@ -268,7 +238,7 @@ module _ (L : Limits) where
     row-set-up m left v s b true d now w ih i =
         if-below _ _ _ _ _ _ _
         (λ a.
-        goes (sets d) (SetUp m v b s left) (SetUp m v d s left) now w _
+        goes (sets d)
         (λ js l h.
         record {
           pulled = d ∷ h .pulled;
@@ -290,9 +260,7 @@ module _ (L : Limits) where
         (onward (if below (L .«valid_most») s now then Go (Valid m v b s left)
         else Stop ClockStall) now (λ (q : Phase). run L (suc now) q w))
     on-valid m left v s b now w ih i =
-        if-below _ _ _ _ _ _ _
-        (λ a. goes (offers b) (Valid m v b s left) (Valid m v b s left) now w _ (λ js l h. stay h) (ih (suc now)
-        (Valid m v b s left) (omega arith)))
+        if-below _ _ _ _ _ _ _ (λ a. goes (offers b) (λ js l h. stay h) (ih (suc now) (Valid m v b s left) (omega arith)))
 
     row-valid : (m : Bool) (left v s : ℕ) (b c d : Bool) → Row (Valid m v b s left) c d
     unfolding next same afterBit handover
@@ -302,30 +270,25 @@ module _ (L : Limits) where
     row-valid m left v s false false true now w ih i = dead _ _ _
     row-valid m (suc left) v s b true d now w ih i =
         unless-below _ _ _ _ _ _ _
-        (λ a.
-        goes (sets d) (Valid m v b s (suc left)) (SetUp m (withBit v b) d now left) now w _ (λ js l h. leaves (a, i, (d, one h)))
+        (λ a. goes (sets d) (λ js l h. leaves (a, i, (d, one h)))
         (ih (suc now) (SetUp m (withBit v b) d now left) (omega (arith, times .set-up-some))))
     row-valid m zero v s b true false now w ih i =
         unless-below _ _ _ _ _ _ _
-        (λ a.
-        goes clock (Valid m v b s 0) (Open m (withBit v b) now now) now w _ (λ js l h. leaves (a, i, opens (one h)))
+        (λ a. goes clock (λ js l h. leaves (a, i, opens (one h)))
         (ih (suc now) (Open m (withBit v b) now now) (omega (arith, times .keep-take))))
     row-valid m zero v s true true true now w ih i =
         unless-below _ _ _ _ _ _ _
-        (λ a.
-        goes clockKept (Valid m v true s 0) (Carried m (withBit v true) now) now w _ (λ js l h. leaves (a, i, carries refl (one h)))
-        (ih (suc now) (Carried m (withBit v true) now) tt))
+        (λ a. goes clockKept (λ js l h. leaves (a, i, carries refl (one h))) (ih (suc now) (Carried m (withBit v true) now) tt))
     row-valid m zero v s false true true now w ih i = unless-below _ _ _ _ _ _ _ (λ a. dead _ _ _)
 
     row-ready-to-send : (any ended c d : Bool) → Row (ReadyToSend any ended) c d
     unfolding next
     row-ready-to-send any ended true d now w ih i = dead _ _ _
     row-ready-to-send any ended false true now w ih i =
-        goes held (ReadyToSend any ended) (ReadyToSend any ended) now w _ (λ js l h. stay h) (ih (suc now) (ReadyToSend any ended) tt)
-    row-ready-to-send any true false false now w ih i =
-        goes nobody (ReadyToSend any true) (End now) now w _ (λ js l h. leaves (one h)) (ih (suc now) (End now) tt)
+        goes held (λ js l h. stay h) (ih (suc now) (ReadyToSend any ended) tt)
+    row-ready-to-send any true false false now w ih i = goes nobody (λ js l h. leaves (one h)) (ih (suc now) (End now) tt)
     row-ready-to-send any false false false now w ih i =
-        goes nobody (ReadyToSend any false) (ReadyForData any now) now w _ (λ js l h. leaves (sends L times now (nobody ∷ js) l (one h)))
+        goes nobody (λ js l h. leaves (sends L times now (nobody ∷ js) l (one h)))
         (ih (suc now) (ReadyForData any now) (omega (arith, times .ready-for-data)))
 
     row : (p : Phase) (c d : Bool) → Row p c d
@@ -351,7 +314,8 @@ module _ (L : Limits) where
     runs-out p now = by-stage (told p)
       where
         by-stage : Told p → Sound (From p now []) (ended p now)
-        by-stage (is-running r) = subst⁻¹ (λ (g : Stage). Sound (From p now []) (record { decision = decisionIn g now; bytes = [] })) r (cut _ _)
+        by-stage (is-running r) =
+            subst⁻¹ (λ (g : Stage). Sound (From p now []) (record { decision = decisionIn g now; bytes = [] })) r (cut _ _)
         by-stage (is-end finish r) =
             subst⁻¹ (λ (q : Phase). Sound (From q now []) (ended q now)) r
             (record { prove = λ h. record { js = []; gives = refl; shape = record { count = 0; is = refl; bytes = refl } } })
