@@ -87,12 +87,12 @@ module _ (L : Limits) where
   InTime Start now = now ≤ L .presence
   InTime FirstHold now = Unit {0}
   InTime (Hold end-mark value take let-go) now = Unit {0}
-  InTime (ReadyToSend any ended) now = Unit {0}
-  InTime (ReadyForData any since) now = now ≤ since + L .«end_mark_latest»
-  InTime (Acknowledgement any since ready) now = now ≤ since + L .«acknowledge_most»
-  InTime (Acknowledged any since ready) now = Unit {0}
-  InTime (SetUp end-mark value last since left) now = now ≤ since + L .«set_up_most»
-  InTime (Valid end-mark value bit since left) now = now ≤ since + L .«valid_most»
+  InTime (ReadyToSend some-handed ended) now = Unit {0}
+  InTime (ReadyForData some-handed since) now = now ≤ since + L .«end_mark_latest»
+  InTime (Acknowledgement some-handed since ready-tick) now = now ≤ since + L .«acknowledge_most»
+  InTime (Acknowledged some-handed since ready-tick) now = Unit {0}
+  InTime (SetUp end-mark value last since bits-left) now = now ≤ since + L .«set_up_most»
+  InTime (Valid end-mark value bit since bits-left) now = now ≤ since + L .«valid_most»
   InTime (Open end-mark value since let-go) now = now ≤ since + L .«take_latest»
   InTime (Carried end-mark value since) now = Unit {0}
   InTime (End finish) now = Unit {0}
@@ -155,14 +155,14 @@ module _ (L : Limits) where
   row-hold m v t g true false now w ih i = dead _ _ _
   row-hold m v t g false false now w ih i = dead _ _ _
 
-  row-acknowledgement : (any : Bool) (s ready : ℕ) (c d : Bool) → Row (Acknowledgement any s ready) c d
+  row-acknowledgement : (some-handed : Bool) (s ready-tick : ℕ) (c d : Bool) → Row (Acknowledgement some-handed s ready-tick) c d
   unfolding next
-  row-acknowledgement any s ready true d now w ih i = dead _ _ _
-  row-acknowledgement any s ready false true now w ih i =
-      if-below _ _ _ _ _ _ _ (λ a. goes held (λ js l h. stay h) (ih (suc now) (Acknowledgement any s ready) (omega arith)))
-  row-acknowledgement any s ready false false now w ih i =
+  row-acknowledgement some-handed s ready-tick true d now w ih i = dead _ _ _
+  row-acknowledgement some-handed s ready-tick false true now w ih i =
+      if-below _ _ _ _ _ _ _ (λ a. goes held (λ js l h. stay h) (ih (suc now) (Acknowledgement some-handed s ready-tick) (omega arith)))
+  row-acknowledgement some-handed s ready-tick false false now w ih i =
       unless-below _ _ _ _ _ _ _
-      (λ a. goes nobody (λ js l h. leaves (a, i, one h)) (ih (suc now) (Acknowledged any now ready) tt))
+      (λ a. goes nobody (λ js l h. leaves (a, i, one h)) (ih (suc now) (Acknowledged some-handed now ready-tick) tt))
 
   row-end : (f : ℕ) (c d : Bool) → Row (End f) c d
   unfolding next
@@ -201,41 +201,41 @@ module _ (L : Limits) where
         (λ js l h. inr (leaves (record { late = late; others = l; hands = refl; after = one h })))
         (ih (suc now) (ReadyToSend true m) tt))
 
-    row-ready-for-data : (any : Bool) (s : ℕ) (c d : Bool) → Row (ReadyForData any s) c d
+    row-ready-for-data : (some-handed : Bool) (s : ℕ) (c d : Bool) → Row (ReadyForData some-handed s) c d
     unfolding next
-    row-ready-for-data any s true d now w ih i =
+    row-ready-for-data some-handed s true d now w ih i =
         if-below _ _ _ _ _ _ _
         (λ a. goes (sets d) (λ js l h. leaves (inl (a, (d, one h))))
         (ih (suc now) (SetUp false 0 d now 7) (omega (arith, times .set-up-some))))
-    row-ready-for-data any s false true now w ih i =
+    row-ready-for-data some-handed s false true now w ih i =
         unless-below _ _ _ _ _ _ _
         (λ a. goes held (λ js l h. leaves (inr (a, i, one h)))
-        (ih (suc now) (Acknowledgement any now s) (omega (arith, times .acknowledge-some, times .acknowledge-room))))
-    row-ready-for-data any s false false now w ih i =
-        if-below _ _ _ _ _ _ _ (λ a. goes nobody (λ js l h. stay h) (ih (suc now) (ReadyForData any s) (omega arith)))
+        (ih (suc now) (Acknowledgement some-handed now s) (omega (arith, times .acknowledge-some, times .acknowledge-room))))
+    row-ready-for-data some-handed s false false now w ih i =
+        if-below _ _ _ _ _ _ _ (λ a. goes nobody (λ js l h. stay h) (ih (suc now) (ReadyForData some-handed s) (omega arith)))
 
-    row-acknowledged : (any : Bool) (s ready : ℕ) (c d : Bool) → Row (Acknowledged any s ready) c d
+    row-acknowledged : (some-handed : Bool) (s ready-tick : ℕ) (c d : Bool) → Row (Acknowledged some-handed s ready-tick) c d
     unfolding next
-    row-acknowledged any s ready false true now w ih i = dead _ _ _
-    row-acknowledged any s ready true d now w ih i =
+    row-acknowledged some-handed s ready-tick false true now w ih i = dead _ _ _
+    row-acknowledged some-handed s ready-tick true d now w ih i =
         if-upTo _ _ _ _ _ _ _
         (λ a. goes (sets d) (λ js l h. leaves (a, (d, one h))) (ih (suc now) (SetUp true 0 d now 7) (omega (arith, times .set-up-some))))
-    row-acknowledged false s ready false false now w ih i =
-        if-below _ _ _ _ _ _ _ (λ a. goes nobody (λ js l h. stay h) (ih (suc now) (Acknowledged false s ready) tt))
-    row-acknowledged true s ready false false now w ih i =
-        if-below _ _ _ _ _ _ _ (λ a. goes nobody (λ js l h. stay h) (ih (suc now) (Acknowledged true s ready) tt))
+    row-acknowledged false s ready-tick false false now w ih i =
+        if-below _ _ _ _ _ _ _ (λ a. goes nobody (λ js l h. stay h) (ih (suc now) (Acknowledged false s ready-tick) tt))
+    row-acknowledged true s ready-tick false false now w ih i =
+        if-below _ _ _ _ _ _ _ (λ a. goes nobody (λ js l h. stay h) (ih (suc now) (Acknowledged true s ready-tick) tt))
 
     -- The last set-up tick shows b, and the first valid tick too.
-    to-valid : (m : Bool) (left v s : ℕ) (b : Bool) (now : ℕ) (w : List Lines) → Holds w → InTime (SetUp m v b s left) now
-        → Sound (From (SetUp m v b s left) now (lines false b ∷ w)) (run L (suc now) (Valid m v b now left) w)
-    to-valid m left v s b now w ih i =
+    to-valid : (m : Bool) (bits-left v s : ℕ) (b : Bool) (now : ℕ) (w : List Lines) → Holds w → InTime (SetUp m v b s bits-left) now
+        → Sound (From (SetUp m v b s bits-left) now (lines false b ∷ w)) (run L (suc now) (Valid m v b now bits-left) w)
+    to-valid m bits-left v s b now w ih i =
         goes (offers b)
         (λ js l h. record { pulled = []; till = now; rest = offers b ∷ js; ends = omega arith; fits = i; splits = refl; after = one h })
-        (ih (suc now) (Valid m v b now left) (omega (arith, times .valid-some, times .valid-room)))
+        (ih (suc now) (Valid m v b now bits-left) (omega (arith, times .valid-some, times .valid-room)))
 
-    row-set-up : (m : Bool) (left v s : ℕ) (b c d : Bool) → Row (SetUp m v b s left) c d
+    row-set-up : (m : Bool) (bits-left v s : ℕ) (b c d : Bool) → Row (SetUp m v b s bits-left) c d
     unfolding next same
-    row-set-up m left v s b true d now w ih i =
+    row-set-up m bits-left v s b true d now w ih i =
         if-below _ _ _ _ _ _ _
         (λ a.
         goes (sets d)
@@ -249,29 +249,29 @@ module _ (L : Limits) where
           splits = ap (λ x. sets d ∷ x) (h .splits);
           after = h .after;
         })
-        (ih (suc now) (SetUp m v d s left) (omega arith)))
-    row-set-up m left v s true false true now w ih i = to-valid m left v s true now w ih i
-    row-set-up m left v s false false false now w ih i = to-valid m left v s false now w ih i
-    row-set-up m left v s true false false now w ih i = dead _ _ _
-    row-set-up m left v s false false true now w ih i = dead _ _ _
+        (ih (suc now) (SetUp m v d s bits-left) (omega arith)))
+    row-set-up m bits-left v s true false true now w ih i = to-valid m bits-left v s true now w ih i
+    row-set-up m bits-left v s false false false now w ih i = to-valid m bits-left v s false now w ih i
+    row-set-up m bits-left v s true false false now w ih i = dead _ _ _
+    row-set-up m bits-left v s false false true now w ih i = dead _ _ _
 
-    on-valid : (m : Bool) (left v s : ℕ) (b : Bool) (now : ℕ) (w : List Lines) → Holds w → InTime (Valid m v b s left) now
-        → Sound (From (Valid m v b s left) now (lines false b ∷ w))
-        (onward (if below (L .«valid_most») s now then Go (Valid m v b s left)
+    on-valid : (m : Bool) (bits-left v s : ℕ) (b : Bool) (now : ℕ) (w : List Lines) → Holds w → InTime (Valid m v b s bits-left) now
+        → Sound (From (Valid m v b s bits-left) now (lines false b ∷ w))
+        (onward (if below (L .«valid_most») s now then Go (Valid m v b s bits-left)
         else Stop ClockStall) now (λ (q : Phase). run L (suc now) q w))
-    on-valid m left v s b now w ih i =
-        if-below _ _ _ _ _ _ _ (λ a. goes (offers b) (λ js l h. stay h) (ih (suc now) (Valid m v b s left) (omega arith)))
+    on-valid m bits-left v s b now w ih i =
+        if-below _ _ _ _ _ _ _ (λ a. goes (offers b) (λ js l h. stay h) (ih (suc now) (Valid m v b s bits-left) (omega arith)))
 
-    row-valid : (m : Bool) (left v s : ℕ) (b c d : Bool) → Row (Valid m v b s left) c d
+    row-valid : (m : Bool) (bits-left v s : ℕ) (b c d : Bool) → Row (Valid m v b s bits-left) c d
     unfolding next same afterBit handover
-    row-valid m left v s true false true now w ih i = on-valid m left v s true now w ih i
-    row-valid m left v s false false false now w ih i = on-valid m left v s false now w ih i
-    row-valid m left v s true false false now w ih i = dead _ _ _
-    row-valid m left v s false false true now w ih i = dead _ _ _
-    row-valid m (suc left) v s b true d now w ih i =
+    row-valid m bits-left v s true false true now w ih i = on-valid m bits-left v s true now w ih i
+    row-valid m bits-left v s false false false now w ih i = on-valid m bits-left v s false now w ih i
+    row-valid m bits-left v s true false false now w ih i = dead _ _ _
+    row-valid m bits-left v s false false true now w ih i = dead _ _ _
+    row-valid m (suc bits-left) v s b true d now w ih i =
         unless-below _ _ _ _ _ _ _
         (λ a. goes (sets d) (λ js l h. leaves (a, i, (d, one h)))
-        (ih (suc now) (SetUp m (withBit v b) d now left) (omega (arith, times .set-up-some))))
+        (ih (suc now) (SetUp m (withBit v b) d now bits-left) (omega (arith, times .set-up-some))))
     row-valid m zero v s b true false now w ih i =
         unless-below _ _ _ _ _ _ _
         (λ a. goes clock (λ js l h. leaves (a, i, opens (one h)))
@@ -281,27 +281,27 @@ module _ (L : Limits) where
         (λ a. goes clockKept (λ js l h. leaves (a, i, carries refl (one h))) (ih (suc now) (Carried m (withBit v true) now) tt))
     row-valid m zero v s false true true now w ih i = unless-below _ _ _ _ _ _ _ (λ a. dead _ _ _)
 
-    row-ready-to-send : (any ended c d : Bool) → Row (ReadyToSend any ended) c d
+    row-ready-to-send : (some-handed ended c d : Bool) → Row (ReadyToSend some-handed ended) c d
     unfolding next
-    row-ready-to-send any ended true d now w ih i = dead _ _ _
-    row-ready-to-send any ended false true now w ih i =
-        goes held (λ js l h. stay h) (ih (suc now) (ReadyToSend any ended) tt)
-    row-ready-to-send any true false false now w ih i = goes nobody (λ js l h. leaves (one h)) (ih (suc now) (End now) tt)
-    row-ready-to-send any false false false now w ih i =
+    row-ready-to-send some-handed ended true d now w ih i = dead _ _ _
+    row-ready-to-send some-handed ended false true now w ih i =
+        goes held (λ js l h. stay h) (ih (suc now) (ReadyToSend some-handed ended) tt)
+    row-ready-to-send some-handed true false false now w ih i = goes nobody (λ js l h. leaves (one h)) (ih (suc now) (End now) tt)
+    row-ready-to-send some-handed false false false now w ih i =
         goes nobody (λ js l h. leaves (sends L times now (nobody ∷ js) l (one h)))
-        (ih (suc now) (ReadyForData any now) (omega (arith, times .ready-for-data)))
+        (ih (suc now) (ReadyForData some-handed now) (omega (arith, times .ready-for-data)))
 
     row : (p : Phase) (c d : Bool) → Row p c d
     unfolding next
     row Start c d = row-start c d
     row FirstHold c d = row-first-hold c d
     row (Hold m v t g) c d = row-hold m v t g c d
-    row (ReadyToSend any ended) c d = row-ready-to-send any ended c d
-    row (ReadyForData any s) c d = row-ready-for-data any s c d
-    row (Acknowledgement any s ready) c d = row-acknowledgement any s ready c d
-    row (Acknowledged any s ready) c d = row-acknowledged any s ready c d
-    row (SetUp m v b s left) c d = row-set-up m left v s b c d
-    row (Valid m v b s left) c d = row-valid m left v s b c d
+    row (ReadyToSend some-handed ended) c d = row-ready-to-send some-handed ended c d
+    row (ReadyForData some-handed s) c d = row-ready-for-data some-handed s c d
+    row (Acknowledgement some-handed s ready-tick) c d = row-acknowledgement some-handed s ready-tick c d
+    row (Acknowledged some-handed s ready-tick) c d = row-acknowledged some-handed s ready-tick c d
+    row (SetUp m v b s bits-left) c d = row-set-up m bits-left v s b c d
+    row (Valid m v b s bits-left) c d = row-valid m bits-left v s b c d
     row (Open m v s l) c d = row-open m v s l c d
     row (Carried m v s) c d = row-carried m v s c d
     row (End f) c d = row-end f c d

@@ -119,26 +119,27 @@ module _ (L : Limits) where
       ∙ enters FirstHold (ReadyToSend false false) false false true wait (found + hold) js (let-go .later) refl (λ i x y. refl)
 
   -- A set-up's further ticks.
-  along-set-up : (m : Bool) (left v s now : ℕ) (d : Bool) (ds : List Bool) (js : List Pulls) → now + length ds ≤ s + L .«set_up_most»
-      → run L now (SetUp m v d s left) (map shows (map sets ds ++ js))
-      ≡ run L (now + length ds) (SetUp m v (lastOf d ds) s left) (map shows js)
+  along-set-up : (m : Bool) (bits-left v s now : ℕ) (d : Bool) (ds : List Bool) (js : List Pulls) → now + length ds ≤ s + L .«set_up_most»
+      → run L now (SetUp m v d s bits-left) (map shows (map sets ds ++ js))
+      ≡ run L (now + length ds) (SetUp m v (lastOf d ds) s bits-left) (map shows js)
   unfolding next
-  along-set-up m left v s now d [] js h = at-tick _ _ (omega arith)
-  along-set-up m left v s now d (e ∷ ds) js h =
-      step now (SetUp m v d s left) (SetUp m v e s left) true e _ (is-below _ _ _ _ _ (omega arith))
-      ∙ along-set-up m left v s (suc now) e ds js (omega arith)
+  along-set-up m bits-left v s now d [] js h = at-tick _ _ (omega arith)
+  along-set-up m bits-left v s now d (e ∷ ds) js h =
+      step now (SetUp m v d s bits-left) (SetUp m v e s bits-left) true e _ (is-below _ _ _ _ _ (omega arith))
+      ∙ along-set-up m bits-left v s (suc now) e ds js (omega arith)
       ∙ at-tick _ _ (omega arith)
 
   -- One bit, from the tick after its first set-up tick `s` to its last valid tick.
-  along-bit : (m : Bool) (left v s : ℕ) (x : Bit) (js : List Pulls) → 1 ≤ x .valid → BitRule L x
-      → run L (suc s) (SetUp m v (x .first) s left) (map shows (map sets (x .others) ++ (replicate (x .valid) (offers (x .bit)) ++ js)))
-      ≡ run L (s + suc (length (x .others) + x .valid)) (Valid m v (x .bit) (suc s + length (x .others)) left) (map shows js)
+  along-bit : (m : Bool) (bits-left v s : ℕ) (x : Bit) (js : List Pulls) → 1 ≤ x .valid → BitRule L x
+      → run L (suc s) (SetUp m v (x .first) s bits-left)
+      (map shows (map sets (x .others) ++ (replicate (x .valid) (offers (x .bit)) ++ js)))
+      ≡ run L (s + suc (length (x .others) + x .valid)) (Valid m v (x .bit) (suc s + length (x .others)) bits-left) (map shows js)
   unfolding next
-  along-bit m left v s x js one rules =
-      along-set-up m left v s (suc s) (x .first) (x .others) _ (omega (arith, rules .set-up))
-      ∙ ap (λ (b : Bool). run L (suc s + length (x .others)) (SetUp m v b s left)
+  along-bit m bits-left v s x js one rules =
+      along-set-up m bits-left v s (suc s) (x .first) (x .others) _ (omega (arith, rules .set-up))
+      ∙ ap (λ (b : Bool). run L (suc s + length (x .others)) (SetUp m v b s bits-left)
       (map shows (replicate (x .valid) (offers (x .bit)) ++ js))) (sym (rules .steady))
-      ∙ enters (SetUp m v (x .bit) s left) (Valid m v (x .bit) (suc s + length (x .others)) left) false (x .bit) false (x .valid)
+      ∙ enters (SetUp m v (x .bit) s bits-left) (Valid m v (x .bit) (suc s + length (x .others)) bits-left) false (x .bit) false (x .valid)
       (suc s + length (x .others)) js one (is-same (x .bit) _ _)
       (λ i a b. is-same (x .bit) _ _ ∙ is-below _ _ _ _ _ (omega (arith, rules .valid-most)))
       ∙ at-tick _ _ (omega arith)
@@ -244,23 +245,24 @@ module _ (L : Limits) where
 
   module _ (times : Consistent L) where
     -- D up to a CLK pull or an acknowledgement, F and G.
-    along-gap : (any : Bool) (gap now : ℕ) (js : List Pulls) → 1 ≤ gap → gap ≤ L .«end_mark_latest»
-        → run L now (ReadyToSend any false) (map shows (replicate gap nobody ++ js))
-        ≡ run L (now + gap) (ReadyForData any now) (map shows js)
+    along-gap : (some-handed : Bool) (gap now : ℕ) (js : List Pulls) → 1 ≤ gap → gap ≤ L .«end_mark_latest»
+        → run L now (ReadyToSend some-handed false) (map shows (replicate gap nobody ++ js))
+        ≡ run L (now + gap) (ReadyForData some-handed now) (map shows js)
     unfolding next
-    along-gap any gap now js a b =
-        enters (ReadyToSend any false) (ReadyForData any now) false false false gap now _ a refl (λ i x y. is-below _ _ _ _ _
-        (omega arith))
+    along-gap some-handed gap now js a b =
+        enters (ReadyToSend some-handed false) (ReadyForData some-handed now) false false false gap now _ a refl
+        (λ i x y. is-below _ _ _ _ _ (omega arith))
 
-    along-mark : (any : Bool) (gap ack resp now : ℕ) (js : List Pulls) → EndMarkRule L gap ack resp
-        → run L now (ReadyToSend any false) (map shows (replicate gap nobody ++ (replicate ack held ++ (replicate resp nobody ++ js))))
-        ≡ run L (now + gap + ack + resp) (Acknowledged any (now + gap + ack) now) (map shows js)
+    along-mark : (some-handed : Bool) (gap ack resp now : ℕ) (js : List Pulls) → EndMarkRule L gap ack resp
+        → run L now (ReadyToSend some-handed false)
+        (map shows (replicate gap nobody ++ (replicate ack held ++ (replicate resp nobody ++ js))))
+        ≡ run L (now + gap + ack + resp) (Acknowledged some-handed (now + gap + ack) now) (map shows js)
     unfolding next
-    along-mark any gap ack resp now js rule =
-        along-gap any gap now _ (omega (arith, times .end-mark)) (rule .gap-most)
-        ∙ enters (ReadyForData any now) (Acknowledgement any (now + gap) now) false false true ack (now + gap) _
+    along-mark some-handed gap ack resp now js rule =
+        along-gap some-handed gap now _ (omega (arith, times .end-mark)) (rule .gap-most)
+        ∙ enters (ReadyForData some-handed now) (Acknowledgement some-handed (now + gap) now) false false true ack (now + gap) _
         (omega (arith, times .acknowledge-some)) (not-below _ _ _ _ _ (omega arith)) (λ i x y. is-below _ _ _ _ _ (omega arith))
-        ∙ enters (Acknowledgement any (now + gap) now) (Acknowledged any (now + gap + ack) now) false false false resp
+        ∙ enters (Acknowledgement some-handed (now + gap) now) (Acknowledged some-handed (now + gap + ack) now) false false false resp
         (now + gap + ack) _ (rule .response-least) (not-below _ _ _ _ _ (omega arith))
         (λ i x y. is-below _ _ _ _ _ (omega (arith, times .timeout)))
 
@@ -290,9 +292,9 @@ module _ (L : Limits) where
     abbrev Begins : Bool → ℕ → Phase → Type 0
     Begins m e p = (d : Bool) → next L e p true d ≡ Go (SetUp m 0 d e 7)
 
-    seven-left : (m : Bool) (e : ℕ) (d : Bool) (w : List Lines) {left : ℕ} → left ≡ 7
-        → run L (suc e) (SetUp m 0 d e 7) w ≡ run L (suc e) (SetUp m 0 d e left) w
-    seven-left m e d w h = ap (λ (left : ℕ). run L (suc e) (SetUp m 0 d e left) w) (sym h)
+    seven-left : (m : Bool) (e : ℕ) (d : Bool) (w : List Lines) {bits-left : ℕ} → bits-left ≡ 7
+        → run L (suc e) (SetUp m 0 d e 7) w ≡ run L (suc e) (SetUp m 0 d e bits-left) w
+    seven-left m e d w h = ap (λ (bits-left : ℕ). run L (suc e) (SetUp m 0 d e bits-left) w) (sym h)
 
     -- A byte, from the CLK pull that begins its bits to what follows its hold.
     along-fields : (m : Bool) (p : Phase) (e : ℕ) (bits : List Bit) (l t n : ℕ) (js : List Pulls) (r : Outcome) → Begins m e p
@@ -334,22 +336,21 @@ module _ (L : Limits) where
         subst⁻¹ (λ o. CompleteBy o (b ∷ rest)) (h .is)
         (record { verdict = k .verdict; ledger = (refl, h .let-go-by, h .take-by, k .ledger) })
 
-    along-sending : (any : Bool) (now : ℕ) (s : Sending) → SendingRules L s
-        → CompleteBy (run L now (ReadyToSend any false) (map shows (sendingTrack s))) (sendingBytes now s)
+    along-sending : (some-handed : Bool) (now : ℕ) (s : Sending) → SendingRules L s
+        → CompleteBy (run L now (ReadyToSend some-handed false) (map shows (sendingTrack s))) (sendingBytes now s)
     unfolding next
-    along-sending any now (more gap f wait rest) rules =
+    along-sending some-handed now (more gap f wait rest) rules =
         let r = rules .0 in
         complete-on
-        (then-hands (along-gap any gap now _ (r .plain .least) (omega (arith, r .plain .most, times .end-mark-in-time)))
-        (along-frame false (ReadyForData any now) (now + gap) f _ _ (λ d. is-below _ _ _ _ _ (omega (arith, r .plain .most))) (r .frame)
-        (lets-go false wait _ _ (r .let-go))))
+        (then-hands (along-gap some-handed gap now _ (r .plain .least) (omega (arith, r .plain .most, times .end-mark-in-time)))
+        (along-frame false (ReadyForData some-handed now) (now + gap) f _ _
+        (λ d. is-below _ _ _ _ _ (omega (arith, r .plain .most))) (r .frame) (lets-go false wait _ _ (r .let-go))))
         (along-sending true _ rest (rules .1))
-    along-sending any now (last gap ack resp f wait silence) rules =
+    along-sending some-handed now (last gap ack resp f wait silence) rules =
         complete-on
-        (then-hands (along-mark any gap ack resp now _ (rules .end-mark))
-        (along-frame true (Acknowledged any (now + gap + ack) now) (now + gap + ack + resp) f _ _
-        (λ d. is-upTo _ _ _ _ _ (omega (arith, rules .end-mark .response-most))) (rules .frame)
-        (lets-go true wait _ _ (rules .let-go))))
+        (then-hands (along-mark some-handed gap ack resp now _ (rules .end-mark))
+        (along-frame true (Acknowledged some-handed (now + gap + ack) now) (now + gap + ack + resp) f _ _
+        (λ d. is-upTo _ _ _ _ _ (omega (arith, rules .end-mark .response-most))) (rules .frame) (lets-go true wait _ _ (rules .let-go))))
         (subst⁻¹ (λ o. CompleteBy o []) (along-end silence _ (rules .silent .some)) (record { verdict = refl; ledger = tt }))
 
     -- A plan that keeps the rules is read as complete, with the plan's bytes and each tick the plan's or an earlier one.

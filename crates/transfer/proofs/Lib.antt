@@ -1,4 +1,5 @@
--- Why it holds. The crates above cite Rows, Stages, DecisionTicks, Room, Demand3 and Facts, and the writer's read-back the proofs along a plan.
+-- Why it holds. The crates above cite Rows, Stages, DecisionTicks, Room, Demand3 and Facts, and the writer's read-back the proofs along
+-- a plan.
 pub mod Rows
 pub mod Stages
 pub mod DecisionTicks

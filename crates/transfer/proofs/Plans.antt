@@ -133,9 +133,9 @@ module _ (L : Limits) where
             (subst₂ (λ (x y : ℕ). Holding mark value l (e + 1) (e + 1) x y (f .rest)) (omega arith) (omega arith) h)
 
     -- Bits, and the handover after them.
-    record BitsPlan (mark b : Bool) (left value e : ℕ) (js : List Pulls) (l : List Byte) : Type 0 where
+    record BitsPlan (mark b : Bool) (bits-left value e : ℕ) (js : List Pulls) (l : List Byte) : Type 0 where
       bits : List Bit
-      number : length bits ≡ left
+      number : length bits ≡ bits-left
       rules : BitRules L bits
       till : ℕ
       rest : List Pulls
@@ -143,8 +143,8 @@ module _ (L : Limits) where
       is : js ≡ bitsTrack bits rest
       after : HandoverPlan mark (lastBit b bits) (takenIn value bits) till rest l
 
-    bits-plan : (mark b : Bool) (left value e : ℕ) (js : List Pulls) (l : List Byte) → Bits L mark left value b e js l
-        → BitsPlan mark b left value e js l
+    bits-plan : (mark b : Bool) (bits-left value e : ℕ) (js : List Pulls) (l : List Byte) → Bits L mark bits-left value b e js l
+        → BitsPlan mark b bits-left value e js l
     bits-plan mark b zero value e js l h =
         record {
           bits = [];
@@ -156,13 +156,13 @@ module _ (L : Limits) where
           is = refl;
           after = handover-plan mark b value e js l h;
         }
-    bits-plan mark b (suc left) value e js l h =
+    bits-plan mark b (suc bits-left) value e js l h =
         let d = h .0 in
         let f = h .1 in
         let s = f .after in
         let c = lastOf d (s .pulled) in
         let o = many (s .after) in
-        let r = bits-plan mark c left (withBit value c) (o .till) (o .rest) l (o .after .2) in
+        let r = bits-plan mark c bits-left (withBit value c) (o .till) (o .rest) l (o .after .2) in
         record {
           bits = record { first = d; others = s .pulled; bit = c; valid = o .count } ∷ r .bits;
           number = ap suc (r .number);
