@@ -27,7 +27,7 @@ impl State {
         }
         if lines.data {
             let acknowledgement = Phase::Acknowledgement(some_handed, now, since);
-            return self.go_from(limits.end_mark, since, Fault::OutOfTurn, acknowledgement);
+            return self.go_from(limits.end_mark, since, acknowledgement, Fault::OutOfTurn);
         }
         let stay = Phase::ReadyForData(some_handed, since);
         self.go_below(
@@ -66,8 +66,8 @@ impl State {
         self.go_from(
             limits.acknowledge_least,
             since,
-            Fault::AcknowledgementShort,
             acknowledged,
+            Fault::AcknowledgementShort,
         )
     }
 

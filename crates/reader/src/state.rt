@@ -80,7 +80,7 @@ impl State {
     }
 
     // The other way round: it decides if it is fewer than `limit` ticks after `since`, and otherwise leads on.
-    pub(crate) fn go_from(self, limit: u32, since: u32, fault: Fault, phase: Phase) -> State
+    pub(crate) fn go_from(self, limit: u32, since: u32, phase: Phase, fault: Fault) -> State
         requires { ⌜ Countable self ⌝ }
         ensures { λ r. ⌜ r ≡ follow self (if below limit since (self .tick) then Stop fault else Go phase) ⌝ }
     {
