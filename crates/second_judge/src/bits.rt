@@ -1,4 +1,5 @@
 // "Bits, eight, least significant first, pulled is one": the rows of set-up and valid.
+ghost use Rattle.second_judge.specs.Phases.{Leads};
 use crate::handover;
 use crate::limits;
 use crate::lines;
@@ -7,7 +8,9 @@ use crate::phase;
 use crate::rows;
 
 // Set-up: "CLK pulled for 1 to 200 ticks (H), DATA free". "A 201st is 34" is the limit on staying.
-pub fn set_up(pulled: u32, steady: bool) -> u32 {
+pub fn set_up(pulled: u32, steady: bool) -> u32
+    ensures { λ r. ⌜ Leads r ⌝ }
+{
     match pulled {
         lines::CLOCK => phase::STAY,
         lines::BOTH => phase::STAY,
@@ -19,7 +22,9 @@ pub fn set_up(pulled: u32, steady: bool) -> u32 {
 // handover. "A 201st valid tick (H): 34" is the limit on staying.
 // A choice: a 201st tick with CLK released and DATA changed is 33, its row standing before that of 34; a tick with CLK
 // pulled is no valid tick, so that DATA may change in it, and it may follow 200 valid ones.
-pub fn valid(pulled: u32, steady: bool, offset: u32, bits: u32) -> u32 {
+pub fn valid(pulled: u32, steady: bool, offset: u32, bits: u32) -> u32
+    ensures { λ r. ⌜ Leads r ⌝ }
+{
     let after_bit = rows::by_limit(
         bits,
         limits::BITS,
@@ -41,6 +46,9 @@ pub fn valid(pulled: u32, steady: bool, offset: u32, bits: u32) -> u32 {
 
 // Valid: "Its first tick must show the DATA of the last set-up tick, otherwise 33. DATA changing while valid: 33." Both
 // times that is the DATA of the tick before.
-fn unless_moved(steady: bool, next: u32) -> u32 {
+fn unless_moved(steady: bool, next: u32) -> u32
+    requires { ⌜ Leads next ⌝ }
+    ensures { λ r. ⌜ Leads r ⌝ }
+{
     if steady { next } else { numbers::DATA_MOVED }
 }

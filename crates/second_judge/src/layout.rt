@@ -1,7 +1,8 @@
 // "Recording layout": a header of 16 bytes, then steps of 4 bytes, little-endian.
 ghost use mathlib.Core.Path.{_≡_};
-ghost use Prim.Native.Nat.{_+_, _*_, _≤_, _<_};
+ghost use Prim.Native.Nat.{_+_, _*_, _/_, _%_, _≤_, _<_};
 ghost use lib.ListN.{length};
+ghost use Rattle.second_judge.specs.Recording.{two-bytes, four-bytes, duration, lines};
 
 pub const HEADER_BYTES: usize = 16;
 
@@ -30,20 +31,23 @@ pub const TOTAL_TICKS_AT: usize = 8;
 pub const FILE_LENGTH_AT: usize = 12;
 
 fn wide(byte: u8) -> u32
-    ensures { λ r. ⌜ r < 256 ⌝ }
+    ensures { λ r. ⌜ (r ≡ byte) × (r < 256) ⌝ }
 {
     byte as u32
 }
 
 pub fn two_bytes(file: &[u8], at: usize) -> u32
     requires { ⌜ at + 2 ≤ length (now file) ⌝ }
-    ensures { λ r. ⌜ r < 65536 ⌝ }
+    ensures { λ r. ⌜ (r ≡ two-bytes (now (file .entry)) at) × (r < 65536) ⌝ }
 {
     wide(file[at]) + 256 * wide(file[at + 1])
 }
 
 pub fn four_bytes(file: &[u8], at: usize) -> u32
     requires { ⌜ at + 4 ≤ length (now file) ⌝ }
+    ensures { λ r. ⌜ r ≡ four-bytes (now (file .entry)) at ⌝ }
+    ensures { λ r. ⌜ (r % 65536 ≡ two-bytes (now (file .entry)) at)
+        × (r / 65536 ≡ two-bytes (now (file .entry)) (at + 2)) ⌝ }
 {
     two_bytes(file, at) + 65536 * two_bytes(file, at + 2)
 }
@@ -59,6 +63,7 @@ pub fn length_for(steps: u32) -> u32
 // A step's 4 bytes as one number, of which the duration is the lower half.
 pub fn step_at(file: &[u8], step: u32) -> u32
     requires { ⌜ (step < 16000) × (20 + 4 * step ≤ length (now file)) ⌝ }
+    ensures { λ r. ⌜ (r % 65536 ≡ duration (now (file .entry)) step) × (r / 65536 ≡ lines (now (file .entry)) step) ⌝ }
 {
     four_bytes(file, length_for(step) as usize)
 }

@@ -2,6 +2,8 @@
 // It goes by steps and durations: in each step the first tick is tried against the rows of the phase, and of the ticks
 // after it, which show the same lines, only the limit of the phase is asked. "A choice" marks the places where document
 // 01 was read in one of several ways.
+ghost use Rattle.second_judge.specs.Promise.{Answered};
+
 mod bits;
 mod byte;
 mod handover;
@@ -27,9 +29,14 @@ pub struct Finding {
     pub count: u32,
 }
 
-// Refusals 1 to 9 and verdicts 20 to 37 of document 01. "Every refusal has tick 0 and count 0, .. and no lent byte or
-// number changes": of the lent memory it takes the lengths alone.
-pub fn judge_by_steps(file: &[u8], bytes: &mut [u8], ledger: &mut [u32]) -> Finding {
+// A refusal or a verdict of document 01. "Every refusal has tick 0 and count 0, .. and no lent byte or number changes":
+// of the lent memory it takes the lengths alone. A cut has the total of ticks and the number of steps, every other
+// verdict less of both, and a recording is complete only if its last step leaves the lines at rest. What the lent memory
+// holds beyond the count's places stays.
+pub fn judge_by_steps(file: &[u8], bytes: &mut [u8], ledger: &mut [u32]) -> Finding
+    ensures { λ r.
+        ⌜ Answered r (now (file .entry)) (now (bytes .entry)) (now (bytes .exit)) (now (ledger .entry)) (now (ledger .exit)) ⌝ }
+{
     let tested = refusals::test(file, bytes.len(), ledger.len());
     if tested.number != numbers::NONE {
         return Finding {

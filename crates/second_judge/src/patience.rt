@@ -1,4 +1,8 @@
 // How long a phase may last while its lines stay as they are: the rows that say "stay; at offset .. it is ..".
+ghost use mathlib.Core.Path.{_≡_};
+ghost use Prim.Native.Nat.{_<_};
+ghost use Rattle.second_judge.specs.Numbers.{Decides};
+ghost use Rattle.second_judge.specs.Phases.{Stands};
 use crate::Finding;
 use crate::limits;
 use crate::numbers;
@@ -7,7 +11,11 @@ use crate::place::Place;
 
 // The verdict that falls in a step, from its first tick on and before the tick `end`, at which it is over; or no
 // number. The place is the one after the first tick. A limit's tick may lie after the recording's last, and so is wide.
-pub fn found_in(place: Place, count: u32, step: u32, end: u32) -> Finding {
+pub fn found_in(place: Place, count: u32, step: u32, end: u32) -> Finding
+    requires { ⌜ Stands (place .phase) ⌝ }
+    ensures { λ r. ⌜ Decides (r .number) × (r .step ≡ step) × (r .count ≡ count)
+        × ((r .number ≡ 0 → ⊥) → r .tick < end) ⌝ }
+{
     let phase = place.phase;
     let from = counted_from(phase, place.since, place.ready_for_data);
     let tick = from as u64 + limit_of(phase) as u64;
@@ -42,22 +50,30 @@ fn counted_from(phase: u32, since: u32, ready_for_data: u32) -> u32 {
 fn limit_of(phase: u32) -> u32 {
     match phase {
         phase::START => limits::NO_RECEIVER_AT,
+        phase::HOLD => limits::NO_LIMIT,
+        phase::READY_TO_SEND => limits::NO_LIMIT,
         phase::READY_FOR_DATA => limits::END_MARK_NOT_ACKNOWLEDGED_AT,
         phase::ACKNOWLEDGEMENT => limits::ACKNOWLEDGEMENT_LONG_AT,
         phase::ACKNOWLEDGED => limits::SENDER_TIME_OUT,
         phase::SET_UP => limits::SET_UP_MOST,
         phase::VALID => limits::VALID_MOST,
+        phase::CARRIED => limits::NO_LIMIT,
         phase::OPEN => limits::RECEIVER_TIME_OUT,
-        numbers::COMPLETE..=numbers::MOVED_AFTER_THE_END => 0,
-        // B, C, carried and E.
-        _ => limits::NO_LIMIT,
+        phase::END => limits::NO_LIMIT,
+        _ => 0,
     }
 }
 
-// The verdict at that offset. G: "it is 21 if no byte was handed over, otherwise 31".
-fn verdict_of(phase: u32, count: u32) -> u32 {
+// The verdict at that offset. G: "it is 21 if no byte was handed over, otherwise 31". B, C, carried and E have none.
+fn verdict_of(phase: u32, count: u32) -> u32
+    requires { ⌜ Stands phase ⌝ }
+    ensures { λ r. ⌜ Decides r ⌝ }
+{
     match phase {
+        phase::END => numbers::NONE,
         phase::START => numbers::NO_RECEIVER,
+        phase::HOLD => numbers::NONE,
+        phase::READY_TO_SEND => numbers::NONE,
         phase::READY_FOR_DATA => numbers::END_MARK_NOT_ACKNOWLEDGED,
         phase::ACKNOWLEDGEMENT => numbers::ACKNOWLEDGEMENT_LONG,
         phase::ACKNOWLEDGED => if count == 0 {
@@ -67,6 +83,7 @@ fn verdict_of(phase: u32, count: u32) -> u32 {
         },
         phase::SET_UP => numbers::CLOCK_STALL,
         phase::VALID => numbers::CLOCK_STALL,
+        phase::CARRIED => numbers::NONE,
         phase::OPEN => numbers::RECEIVER_TIME_OUT,
         _ => phase,
     }

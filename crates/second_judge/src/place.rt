@@ -1,6 +1,9 @@
 // Where the reading stands: the phase, and the ticks that matter.
 ghost use mathlib.Core.Path.{_≡_};
 ghost use Prim.Native.Nat.{_≤_};
+ghost use mathlib.Core.List.{_∷_};
+ghost use Rattle.second_judge.specs.Numbers.{Among};
+ghost use Rattle.second_judge.specs.Phases.{Stands, end, leading, stay};
 use crate::limits;
 use crate::phase;
 
@@ -27,7 +30,9 @@ pub fn place_of(
     let_go: u32,
     take: u32,
 ) -> Place
-    ensures { λ r. ⌜ r .since ≡ since ⌝ }
+    requires { ⌜ Stands phase ⌝ }
+    ensures { λ r. ⌜ (r .phase ≡ phase) × (r .since ≡ since) × (r .«since_step» ≡ «since_step»)
+        × Stands (r .phase) ⌝ }
 {
     Place {
         phase,
@@ -42,8 +47,12 @@ pub fn place_of(
 // The place after this tick of this step. Carried: "take and letting go both at offset 1", unless DATA is seen released
 // later and both are set anew.
 pub fn after(before: Place, next: u32, tick: u32, step: u32) -> Place
-    requires { ⌜ (before .since ≤ tick) × (tick ≤ 2000000000) ⌝ }
-    ensures { λ r. ⌜ r .since ≤ tick ⌝ }
+    requires { ⌜ (before .since ≤ tick) × (before .«since_step» ≤ step) × (tick ≤ 2000000000)
+        × Stands (before .phase) ⌝ }
+    requires { ⌜ Among (end ∷ leading) next ⌝ }
+    ensures { λ r. ⌜ (r .since ≤ tick) × (r .«since_step» ≤ step) × Stands (r .phase) ⌝ }
+    ensures { λ r. ⌜ (r .phase ≡ end .0 → next ≡ stay .0 → before .phase ≡ end .0) ⌝ }
+    ensures { λ r. ⌜ (r .phase ≡ end .0 → (next ≡ stay .0 → ⊥) → next ≡ end .0) ⌝ }
 {
     let ready_for_data = before.ready_for_data;
     let let_go = before.let_go;

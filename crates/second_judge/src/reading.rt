@@ -1,6 +1,10 @@
 // "Reading goes from state to state and stops for good at the deciding tick": here from step to step.
-ghost use Prim.Native.Nat.{_*_, _-_, _≤_};
-ghost use lib.ListN.{length};
+ghost use mathlib.Core.Path.{_≡_};
+ghost use Prim.Native.Nat.{_<_};
+ghost use Rattle.second_judge.specs.Numbers.{Among, complete, verdicts};
+ghost use Rattle.second_judge.specs.Phases.{end};
+ghost use Rattle.second_judge.specs.Promise.{Judged, Timed};
+ghost use Rattle.second_judge.specs.Recording.{Passed};
 use crate::Finding;
 use crate::byte;
 use crate::layout;
@@ -16,7 +20,9 @@ use crate::storing;
 // asked for the phase's limit alone. That a step goes on with the lines of the one before changes nothing: its first
 // tick then is one more tick that stays. `before` has the lines of the tick before.
 pub fn read_steps(file: &[u8], steps: u32, bytes: &mut [u8], ledger: &mut [u32]) -> Finding
-    requires { ⌜ (steps ≤ 16000) × (4 * steps ≤ length (now file) - 16) ⌝ }
+    requires { ⌜ Passed (now file) steps ⌝ }
+    ensures { λ r.
+        ⌜ Judged r (now (file .entry)) (now (bytes .entry)) (now (bytes .exit)) (now (ledger .entry)) (now (ledger .exit)) ⌝ }
 {
     let mut place = place::place_of(phase::START, 0, 0, 0, 0, 0);
     let mut byte = byte::no_byte();
@@ -46,7 +52,11 @@ pub fn read_steps(file: &[u8], steps: u32, bytes: &mut [u8], ledger: &mut [u32])
 
 // "The recording running out gives 20 in E, 22 anywhere else." "20: the finish tick; 22: total ticks and n."
 // A choice: steps are counted from 0, as S1 shows, whose last step of 25 is its step 24.
-fn ran_out(place: Place, total: u32, steps: u32, count: u32) -> Finding {
+fn ran_out(place: Place, total: u32, steps: u32, count: u32) -> Finding
+    requires { ⌜ (place .phase ≡ end .0 → (place .since < total) × (place .«since_step» < steps)) ⌝ }
+    ensures { λ r. ⌜ Among verdicts (r .number) × (r .count ≡ count) × Timed r total steps
+        × (r .number ≡ complete .0 → place .phase ≡ end .0) ⌝ }
+{
     if place.phase == phase::END {
         Finding {
             number: numbers::COMPLETE,

@@ -1,0 +1,45 @@
+-- Document 01, "Recording layout", as far as the promises name it: `file` is a list of bytes. Assumes nothing.
+use Prim.Native.Nat.{ℕ, zero, suc, _+_, _*_, _%_, _≤_, _<_}
+use mathlib.Core.List.{List}
+use mathlib.Core.Path.{_≡_}
+use lib.ListN.{length, getD}
+
+-- "Little-endian."
+abbrev pub two-bytes : List ℕ → ℕ → ℕ
+two-bytes file at = getD file at 0 + 256 * getD file (at + 1) 0
+
+abbrev pub four-bytes : List ℕ → ℕ → ℕ
+four-bytes file at = two-bytes file at + 65536 * two-bytes file (at + 2)
+
+-- "2-3 step count n"
+abbrev pub step-count : List ℕ → ℕ
+step-count file = two-bytes file 2
+
+-- "8-11 total ticks, the sum of all durations"
+abbrev pub total-ticks : List ℕ → ℕ
+total-ticks file = four-bytes file 8
+
+-- "Each step is 4 bytes: duration 1 to 65,535 in two bytes"
+abbrev pub duration : List ℕ → ℕ → ℕ
+duration file step = two-bytes file (16 + 4 * step)
+
+-- "lines in one byte .. one zero byte"
+abbrev pub lines : List ℕ → ℕ → ℕ
+lines file step = two-bytes file (16 + 4 * step + 2)
+
+-- "bit 0 ATN, 1 CLK, 2 DATA": none of them is pulled
+abbrev pub AtRest : ℕ → Type 0
+AtRest shown = shown % 8 ≡ 0
+
+-- the sum of the durations of the first steps
+unfoldable pub ticks : List ℕ → ℕ → ℕ
+ticks file zero = 0
+ticks file (suc steps) = ticks file steps + duration file steps
+
+-- What the tests 1 to 8 leave of a file, where none of them refuses it.
+pub record Passed (file : List ℕ) (steps : ℕ) : Type 0 where
+  pub few : steps ≤ 16000
+  pub whole : 16 + 4 * steps ≤ length file
+  pub counted : steps ≡ step-count file
+  pub summed : total-ticks file ≡ ticks file steps
+  pub lasting : (step : ℕ) → step < steps → 0 < duration file step
