@@ -7,22 +7,23 @@ use mathlib.Core.Path.{_≡_, refl, sym, subst}
 use mathlib.Core.Bool.{Bool, true, false}
 use mathlib.Core.List.{List, [], _∷_}
 use lib.ListN.{length}
+use borrow.Author.Needs.{needs}
 use Rattle.answer.specs.Choice.{if_then_else_}
 use Rattle.transfer.specs.Limits.{standardLimits}
 use Rattle.transfer.specs.Offsets.{below, upTo}
 use Rattle.transfer.specs.Phases.{next, same, withBit, handover, afterBit}
 use Rattle.transfer.specs.Moves.{move}
 use Rattle.transfer.specs.Outcome.{run}
-use Rattle.transfer.specs.Parties.{Bit, Frame, Sending, more, last, valueOf, sendingBytes}
+use Rattle.transfer.specs.Parties.{Bit, Frame, Sending, more, last, valueOf, sendingBytes, planBytes}
 use Rattle.transfer.specs.Rules.{BitRule, FrameRules, SendingRules, PlanRules}
-use Rattle.transfer.specs.Pair.{values}
-use Rattle.transfer.specs.Demand3.{CompleteWith}
+use Rattle.transfer.specs.Pair.{senderTrack, receiverTrack, gives, values}
+use Rattle.transfer.specs.Demand3.{Explains, CompleteWith}
 use Rattle.transfer.specs.Spans.{ticks}
 use Rattle.transfer.specs.SampleSpans.{s1}
 use Rattle.transfer.specs.Facts.{AllBytes, SomeBytes, PairSendsBytes, S1Explained, oneTick, byte80}
 use Rattle.transfer.specs.Facts.{TwoPairs}
 use Rattle.transfer.specs.declared.limits.Limits.{Limits}
-use Rattle.answer.specs.declared.verdict.Verdict.the-variants.{Complete}
+use Rattle.transfer.specs.declared.lines.Lines.{Lines}
 use Rattle.transfer.proofs.Demand3.{standard-demand3}
 
 -- A pair is for a string of one or more bytes, each below 256.
@@ -70,65 +71,44 @@ byte80-keeps : (let-go take : ℕ) → let-go ≤ 100 → 1 ≤ take → take �
 byte80-keeps let-go take a b c =
     let o = bit-keeps false in
     record {
-      first-take = record { in-time = omega arith };
-      first-release = record { after-take = omega arith };
-      first-let-go = record { later = omega arith };
+      first-take = search needs;
+      first-release = search needs;
+      first-let-go = search needs;
       sending =
           record {
-            end-mark =
-                record {
-                  gap-least = omega arith;
-                  gap-most = omega arith;
-                  acknowledgement-least = omega arith;
-                  acknowledgement-most = omega arith;
-                  response-least = omega arith;
-                  response-most = omega arith;
-                };
+            end-mark = search needs;
             frame =
                 record {
                   bits = record { eight = refl; each = (o, (o, (o, (o, (o, (o, (o, (bit-keeps true, tt)))))))) };
                   handover = record { keeps = a; zero-keeps-not = no-zero; take-least = b; take-most = omega arith };
-                  release = record { after-take = omega arith };
+                  release = search needs;
                 };
-            let-go = record { later = omega arith };
-            silent = record { some = omega arith };
+            let-go = search needs;
+            silent = search needs;
           };
     }
   where
     no-zero : Path Bool true false → let-go ≡ 0
     no-zero e = let z : _≡_ {A = ℕ} 0 1 = cc in absurd (omega arith)
 
+byte80-explains : (let-go take : ℕ) (w : List Lines) → PlanRules standardLimits (byte80 let-go take)
+    → gives (senderTrack (byte80 let-go take)) (receiverTrack (byte80 let-go take)) ≡ w
+    → Explains standardLimits w (0x80 ∷ []) (senderTrack (byte80 let-go take)) (receiverTrack (byte80 let-go take))
+    (planBytes (byte80 let-go take))
+byte80-explains let-go take w rules e =
+    record {
+      pair =
+          record { plan = byte80 let-go take; rules = rules; sends = refl; receives = refl; string-is = refl; dated-so = refl };
+      gives-it = e;
+    }
+
 pub two-pairs : TwoPairs
 two-pairs =
     record {
       early = byte80 1 1;
       late = byte80 60 50;
-      early-explains =
-          record {
-            pair =
-                record {
-                  plan = byte80 1 1;
-                  rules = byte80-keeps 1 1 (omega arith) (omega arith) (omega arith);
-                  sends = refl;
-                  receives = refl;
-                  string-is = refl;
-                  dated-so = refl;
-                };
-            gives-it = refl;
-          };
-      late-explains =
-          record {
-            pair =
-                record {
-                  plan = byte80 60 50;
-                  rules = byte80-keeps 60 50 (omega arith) (omega arith) (omega arith);
-                  sends = refl;
-                  receives = refl;
-                  string-is = refl;
-                  dated-so = refl;
-                };
-            gives-it = refl;
-          };
+      early-explains = byte80-explains 1 1 _ (byte80-keeps 1 1 (omega arith) (omega arith) (omega arith)) refl;
+      late-explains = byte80-explains 60 50 _ (byte80-keeps 60 50 (omega arith) (omega arith) (omega arith)) refl;
       early-bytes = refl;
       late-bytes = refl;
     }

@@ -208,8 +208,8 @@ module _ (L : Limits) where
         (record { value = v; «let_go» = let-go; take = take })
     unfolding next
     along-carried let-go l zero n now k b c d e =
-        let b = heldByte (Carried m v since) in
-        record { let-go = b .«let_go»; take = b .take; is = along-both l n now e; let-go-by = omega arith; take-by = omega arith }
+        let handed = heldByte (Carried m v since) in
+        record { let-go = handed .«let_go»; take = handed .take; is = along-both l n now e; let-go-by = omega arith; take-by = omega arith }
     along-carried let-go l (suc t) zero now k b c d e = absurd (omega arith)
     along-carried let-go zero (suc t) (suc n) now k b c d e =
         record {
@@ -285,8 +285,8 @@ module _ (L : Limits) where
         (SetUp m (withBit v (x .bit)) (y .first) (now + suc (length (x .others) + x .valid)) (length ys)) true (y .first) _
         (not-below _ _ _ _ _ (omega (arith, rules .valid-least)))
         ∙ along-bits m (withBit v (x .bit)) (now + suc (length (x .others) + x .valid)) y ys d js (all .0) (all .1)
-        ∙ ap (λ e. onward (handover m (takenIn v (x ∷ y ∷ ys)) e (lastBit (y .bit) ys) d) e (λ (q : Phase). run L (suc e) q
-        (map shows js))) (omega arith)
+        ∙ ap (λ e. onward (handover m (takenIn v (x ∷ y ∷ ys)) e (lastBit (y .bit) ys) d) e
+        (λ (q : Phase). run L (suc e) q (map shows js))) (omega arith)
 
     -- A phase that a CLK pull at tick e leaves for the bits of a byte.
     abbrev Begins : Bool → ℕ → Phase → Type 0
@@ -328,8 +328,8 @@ module _ (L : Limits) where
         → run L now (ReadyToSend true true) (map shows (replicate silence nobody)) ≡ ended (End now) now
     unfolding next run
     along-end n now one =
-        rw (← (append-nil (replicate n nobody))) (enters (ReadyToSend true true) (End now) false false false n now [] one refl
-        (λ i x y. refl))
+        rw (← (append-nil (replicate n nobody)))
+        (enters (ReadyToSend true true) (End now) false false false n now [] one refl (λ i x y. refl))
 
     complete-on : {o r : Outcome} {b : Byte} {rest : List Byte} → Hands o r b → CompleteBy r rest → CompleteBy o (b ∷ rest)
     complete-on {b = b} {rest = rest} h k =

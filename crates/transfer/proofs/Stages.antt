@@ -5,7 +5,7 @@ use mathlib.Core.Bool.{Bool, true, false, false≢true, not, _&&_}
 use Rattle.answer.specs.Choice.{if_then_else_}
 use Rattle.answer.specs.declared.verdict.Fault.{Fault}
 use Rattle.answer.specs.declared.verdict.Fault.the-variants.{Attention}
-use Rattle.transfer.specs.Phases.{Move, Stop, next}
+use Rattle.transfer.specs.Phases.{Stop, next}
 use Rattle.transfer.specs.Moves.{Stage, Running, Ended, Fallen, stage, hasFallen, isDecided, unlessFallen, move}
 use Rattle.transfer.specs.declared.limits.Limits.{Limits}
 use Rattle.transfer.specs.declared.lines.Lines.{Lines}

@@ -74,9 +74,4 @@ module _ {L : Limits} {card : Card} (in-time : InTime L card) where
 
   pub plan-keeps : (first : ℕ) (others : List ℕ) → PlanRules L (planOf card first others)
   plan-keeps first others =
-      record {
-        first-take = search needs;
-        first-release = search needs;
-        first-let-go = search needs;
-        sending = sending-keeps first others;
-      }
+      record { first-take = search needs; first-release = search needs; first-let-go = search needs; sending = sending-keeps first others }
