@@ -1,87 +1,72 @@
-// The classes of recordings, and all cases of each.
-mod bases;
+// The classes of cases. Each is a file of its own, whose `put` makes the recording of the case with a given number; a
+// further class is a further file, and a line in `put_case`.
+mod cuts;
 mod handovers;
 mod limits;
-mod making;
-mod meetings;
-mod noise;
 mod pairs;
-mod required;
-mod rooms;
+mod refusals;
 mod samples;
 mod strings;
 mod values;
 
-use crate::compared::case::Case;
-use crate::compared::class;
-use crate::compared::differences;
-use crate::compared::judged::compare;
-use crate::damage::compare_damaged;
-use crate::made::draft::part;
-use crate::made::extremes;
+use crate::case::Case;
+use crate::compared::Tally;
+use crate::compared::compare;
+use crate::made::draft;
+use crate::output::print_class;
 
-// How many cases each class has, in the order of the classes' numbers.
-const CASES: [u32; 10] = [
-    samples::CASES,
-    values::CASES,
-    strings::CASES,
-    limits::CASES,
-    handovers::CASES,
-    pairs::CASES,
-    rooms::CASES,
-    noise::CASES,
-    extremes::CASES,
-    meetings::CASES,
-];
+// There may be so many classes, numbered in the order in which they are compared and printed.
+const MOST: u32 = 16;
 
-// How many damaged copies of each recording of a class are compared too.
-const COPIES: [u32; 10] = [40, 1, 3, 1, 2, 3, 0, 1, 5, 0];
+fn put_case(class: u32, number: u32, file: &mut [u8]) -> Case {
+    draft::begin(file);
+    if class == 0 {
+        return samples::put(number, file);
+    }
+    if class == 1 {
+        return values::put(number, file);
+    }
+    if class == 2 {
+        return strings::put(number, file);
+    }
+    if class == 3 {
+        return limits::put(number, file);
+    }
+    if class == 4 {
+        return cuts::put(number, file);
+    }
+    if class == 5 {
+        return handovers::put(number, file);
+    }
+    if class == 6 {
+        return pairs::put(number, file);
+    }
+    if class == 7 {
+        return refusals::put(number, file);
+    }
+    Case::NONE
+}
 
-pub(crate) fn compare_classes(file: &mut [u8], spare: &mut [u8], scores: &mut [u32]) {
+pub(crate) fn compare_classes(file: &mut [u8]) -> Tally {
+    let mut tally = Tally::NONE;
     let mut class: u32 = 0;
-    while class < class::COUNT {
-        compare_cases(class, CASES[(class % 10) as usize], file, spare, scores);
+    while class < MOST {
+        tally = compare_class(class, file, tally);
         class += 1;
     }
+    tally
 }
 
-fn compare_cases(class: u32, cases: u32, file: &mut [u8], spare: &mut [u8], scores: &mut [u32]) {
+// The first case says how many there are.
+fn compare_class(class: u32, file: &mut [u8], before: Tally) -> Tally {
+    let first = put_case(class, 0, file);
+    let mut tally = before;
     let mut number: u32 = 0;
-    while number < cases {
-        let case = Case {
-            class,
-            number,
-            damage: 0,
-        };
-        compare_case(case, file, spare, scores);
+    while number < first.cases {
+        let case = put_case(class, number, file);
+        tally = compare(draft::part(file, case.length), number, case, tally);
         number += 1;
     }
-}
-
-// Makes the case's recording in `file`, and compares it.
-fn compare_case(case: Case, file: &mut [u8], spare: &mut [u8], scores: &mut [u32]) {
-    if making::is_made(case) {
-        let length = making::put_case(case, file, spare);
-        compare_made(case, part(file, length), spare, scores);
-    }
-}
-
-// The recording as it was made, with what was noted of it in `spare`; and its damaged copies, which are made there.
-fn compare_made(case: Case, file: &[u8], spare: &mut [u8], scores: &mut [u32]) {
-    let outcome = compare(file, case, scores);
-    differences::require(
-        required::is_as_required(case, outcome, file, spare),
-        b"not as its class requires: ",
-        outcome,
-        file,
-        case,
-        scores,
-    );
-    compare_damaged(
-        file,
-        spare,
-        case,
-        COPIES[(case.class % 10) as usize],
-        scores,
-    );
+    print_class(first);
+    tally
 }

@@ -1,9 +1,139 @@
-// A recording before both judges: which one it is, what they gave, and what is counted of it.
-pub(crate) mod case;
-pub(crate) mod class;
-pub(crate) mod differences;
-pub(crate) mod expected;
-pub(crate) mod judged;
-pub(crate) mod lent;
-pub(crate) mod room;
-pub(crate) mod scores;
+// One recording before both judges: this is the only place where they are called.
+ghost use Prim.Native.Nat.{_≤_};
+use crate::case::Case;
+use crate::output;
+use second_judge::Finding;
+
+// What is counted: the recordings with each number as the answer, all of them, and the differences.
+pub(crate) struct Tally {
+    pub numbers: [u32; 64],
+    pub recordings: u32,
+    pub differences: u32,
+}
+
+impl Tally {
+    pub(crate) const NONE: Tally = Tally {
+        numbers: [0; 64],
+        recordings: 0,
+        differences: 0,
+    };
+
+    fn count(mut self, number: u32) -> Tally {
+        let place = (number % 64) as usize;
+        self.numbers[place] = std::num::wrapping_add_u32(self.numbers[place], 1);
+        self.recordings = std::num::wrapping_add_u32(self.recordings, 1);
+        self
+    }
+
+    fn differ(mut self) -> Tally {
+        self.differences = std::num::wrapping_add_u32(self.differences, 1);
+        self
+    }
+}
+
+// What the two judges gave.
+pub(crate) struct Outcome {
+    pub first: Finding,
+    pub second: Finding,
+    // The first place at which the ledgers differ, or at whose half the bytes do; the ledgers' length where none is.
+    pub place: usize,
+    // Whether the first judge gave what is required.
+    pub is_met: bool,
+    // The first byte's two ticks.
+    pub let_go: u32,
+    pub take: u32,
+}
+
+impl Outcome {
+    fn is_good(self) -> bool {
+        let first = self.first;
+        let second = self.second;
+        (first.number == second.number)
+            & (first.tick == second.tick)
+            & (first.step == second.step)
+            & (first.count == second.count)
+            & (self.place == LEDGER)
+            & self.is_met
+    }
+}
+
+// How long the buffers are. Their places hold the same beforehand, and no tick of a recording here.
+const BYTES: usize = 1200;
+
+const LEDGER: usize = 2400;
+
+fn judge_by_both(file: &[u8], case: Case) -> Outcome {
+    let mut bytes = [0xEEu8; BYTES];
+    let mut ledger = [0xEEEE_EEEEu32; LEDGER];
+    let mut other_bytes = bytes;
+    let mut other_ledger = ledger;
+    let places = at_most(case.bytes, BYTES);
+    let ticks = at_most(case.ledger, LEDGER);
+    let answer = judge::judge(file, &mut bytes[0..places], &mut ledger[0..ticks]);
+    let second = second_judge::judge_by_steps(
+        file,
+        &mut other_bytes[0..places],
+        &mut other_ledger[0..ticks],
+    );
+    let required = case.required;
+    Outcome {
+        first: Finding {
+            number: answer.number as u32,
+            tick: answer.tick,
+            step: answer.step,
+            count: answer.count,
+        },
+        second,
+        place: first_other(&bytes, &other_bytes, &ledger, &other_ledger),
+        is_met: required.is_met(answer, &bytes, &ledger),
+        let_go: ledger[0],
+        take: ledger[1],
+    }
+}
+
+fn at_most(places: usize, most: usize) -> usize
+    ensures { λ r. ⌜ r ≤ most ⌝ }
+{
+    if places < most {
+        return places;
+    }
+    most
+}
+
+fn first_other(
+    bytes: &[u8; BYTES],
+    other_bytes: &[u8; BYTES],
+    ledger: &[u32; LEDGER],
+    other_ledger: &[u32; LEDGER],
+) -> usize {
+    let mut place: usize = 0;
+    while place < LEDGER {
+        if ledger[place] != other_ledger[place] {
+            return place;
+        }
+        if bytes[place / 2] != other_bytes[place / 2] {
+            return place;
+        }
+        place += 1;
+    }
+    place
+}
+
+// So many differences are shown.
+const MOST_SHOWN: u32 = 8;
+
+// Answers and both buffers whole must be the same, and what is required. Counts the recording.
+pub(crate) fn compare(file: &[u8], number: u32, case: Case, tally: Tally) -> Tally {
+    let outcome = judge_by_both(file, case);
+    let first = outcome.first;
+    let title = case.title;
+    output::print_titled(title, outcome);
+    let counted = tally.count(first.number);
+    if outcome.is_good() {
+        return counted;
+    }
+    if counted.differences < MOST_SHOWN {
+        output::print_difference(file, number, case, outcome);
+    }
+    counted.differ()
+}

@@ -1,64 +1,49 @@
-// Carried and open handovers at each offset, in a first, a middle and a last byte.
-use crate::made::pieces::Handover;
-use crate::made::three::put_three;
-
-pub(crate) const CASES: u32 = KINDS * OFFSETS * BYTES;
+// Carried and open handovers at each offset, in each byte of the base.
+use crate::case::Case;
+use crate::made::transfer::Sent;
+use crate::made::transfer::Transfer;
 
 const KINDS: u32 = 9;
 
 const OFFSETS: u32 = 110;
 
-const BYTES: u32 = 3;
+const BYTES: u32 = 4;
 
-pub(crate) fn put_handover(number: u32, file: &mut [u8]) {
-    let kind = number / BYTES / OFFSETS;
-    let handover = handover_at(kind, number / BYTES % OFFSETS);
-    put_three(file, value_of(kind), number % BYTES, handover);
-}
+// The byte, and its letting go, take and hold: each a number, and whether the offset is added to it.
+struct Kind(u8, u32, u32, u32, u32, u32);
 
-// Bit 8 is zero in the first two kinds.
-fn value_of(kind: u32) -> u8 {
-    if kind < 2 {
-        return 0x41;
-    }
-    0xC1
-}
+const IT: u32 = 0xFFFF_FFFF;
 
-// Kinds 3 to 5: so many ticks from the letting go to the take, and so long a hold.
-const TAKE_AFTER: [u32; 3] = [1, 60, 2];
-
-const HOLDS: [u32; 3] = [200, 200, 99];
-
-fn handover_at(kind: u32, offset: u32) -> Handover {
-    // The take at each offset, from 0 and from 900 on.
-    if kind < 2 {
-        return Handover {
-            let_go: 0,
-            take: std::num::wrapping_add_u32(offset, 900 * kind),
-            hold: 200,
-        };
-    }
+const ALL: [Kind; 9] = [
+    // Bit 8 zero: the take at each offset, from 0 and from 900 on.
+    Kind(0x41, 0, 0, IT, 200, 0),
+    Kind(0x41, 0, 900, IT, 200, 0),
     // Carried up to each offset, where CLK is released.
-    if kind == 2 {
-        return Handover {
-            let_go: 0,
-            take: 0,
-            hold: offset,
-        };
-    }
-    // Carried up to each offset, then open: the take comes 1 or 60 ticks later, 2 later with too short a hold, or at
-    // 999 to 1,001.
-    if kind < 6 {
-        let at = (kind - 3) as usize;
-        return Handover {
-            let_go: offset,
-            take: std::num::wrapping_add_u32(offset, TAKE_AFTER[at]),
-            hold: HOLDS[at],
-        };
-    }
-    Handover {
-        let_go: offset,
-        take: std::num::wrapping_add_u32(kind, 993),
-        hold: 200,
-    }
+    Kind(0xC1, 0, 0, 0, 0, IT),
+    // Carried up to each offset, then open: the take comes 1 or 60 ticks later, 2 later with too short a hold, or at 999
+    // to 1,001.
+    Kind(0xC1, IT, 1, IT, 200, 0),
+    Kind(0xC1, IT, 60, IT, 200, 0),
+    Kind(0xC1, IT, 2, IT, 99, 0),
+    Kind(0xC1, IT, 999, 0, 200, 0),
+    Kind(0xC1, IT, 1000, 0, 200, 0),
+    Kind(0xC1, IT, 1001, 0, 200, 0),
+];
+
+pub(crate) fn put(number: u32, file: &mut [u8]) -> Case {
+    let kind = ALL[(number / BYTES / OFFSETS % KINDS) as usize];
+    let offset = number / BYTES % OFFSETS;
+    let sent = Sent {
+        value: kind.0,
+        let_go: offset & kind.1,
+        take: std::num::wrapping_add_u32(kind.2, offset & kind.3),
+        hold: std::num::wrapping_add_u32(kind.4, offset & kind.5),
+    };
+    let transfer = Transfer {
+        target: number % BYTES,
+        sent,
+        ..Transfer::BASE
+    };
+    transfer.put(file);
+    Case::of_file(*b"handovers ", KINDS * OFFSETS * BYTES, file)
 }

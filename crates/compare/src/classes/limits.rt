@@ -1,20 +1,54 @@
-// Every limit at one below, at, and one above, in each step of the base recordings.
-use crate::classes::bases;
-use crate::made::copies::copy_changed;
-use crate::made::durations::DURATIONS;
-use crate::made::durations::limit_duration;
+// Every limit met by all lines: each step of two recordings lasts one tick less than each limit, as long as it and one
+// tick more, and the step after it shows each value of the four line bits. So the limit's own tick meets every row of
+// its phase: ATN, lines that stay, SRQ that moves, and lines that lead on.
+use crate::case::Case;
+use crate::made::draft;
+use crate::made::transfer::Transfer;
 
-pub(crate) const CASES: u32 = bases::PLACES * DURATIONS;
+// Each value of the line bits, each duration, and each step of the base and of the recording written from no bytes.
+const LINES: u32 = 16;
 
-pub(crate) fn put_limit(number: u32, file: &mut [u8], base: &mut [u8]) {
-    let place = number / DURATIONS;
-    bases::put_base(base, place);
-    copy_changed(
-        base,
-        place % bases::STEPS,
-        limit_duration(number),
-        0,
-        0,
-        file,
-    );
+pub(crate) const DURATIONS: u32 = 39;
+
+const CASES: u32 = (BASE_STEPS + 5) * DURATIONS * LINES;
+
+// 1 stands for the least durations; 212 for 512 ticks after a gap of 220 and an acknowledgement of 80; 230 and 350 are
+// beyond one limit and before the next.
+const LIMITS: [u32; 13] = [1, 20, 60, 100, 150, 200, 212, 230, 256, 290, 350, 512, 1000];
+
+pub(crate) fn put(number: u32, file: &mut [u8]) -> Case {
+    let step = put_base(file, number / LINES / DURATIONS);
+    draft::set_duration(file, step, duration_of(number / LINES));
+    draft::set_lines(file, step_after(file, step), (number % LINES) as u8);
+    Case::of_file(*b"limits    ", CASES, file)
+}
+
+// A tick less than a limit, the limit, and a tick more.
+pub(crate) fn duration_of(index: u32) -> u32 {
+    let limit = LIMITS[(index / 3 % 13) as usize];
+    std::num::wrapping_sub_u32(std::num::wrapping_add_u32(limit, index % 3), 1)
+}
+
+// How many steps the base has with a wait before it and a further step after its end.
+pub(crate) const BASE_STEPS: u32 = 87;
+
+// Gives the step that is meant: of the base, or of the recording written from no bytes.
+pub(crate) fn put_base(file: &mut [u8], place: u32) -> u32 {
+    if place < BASE_STEPS {
+        draft::add(file, 100, draft::CLK);
+        Transfer::BASE.put(file);
+        draft::add(file, 50, draft::RELEASED);
+        return place;
+    }
+    writer::write(&[], file);
+    place - BASE_STEPS
+}
+
+// After the last step comes the first.
+fn step_after(file: &[u8], step: u32) -> u32 {
+    let next = std::num::wrapping_add_u32(step, 1);
+    if next < draft::word_at(file, 0) / 65_536 {
+        return next;
+    }
+    0
 }

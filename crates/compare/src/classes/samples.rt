@@ -1,67 +1,113 @@
-// Every sample of document 01, in all variations, printed and held to document 01's own figures.
-use crate::compared::expected::is_expected;
-use crate::compared::judged::Outcome;
-use crate::compared::lent;
-use crate::made::samples;
-use crate::made::samples::SAMPLES;
-use crate::made::samples::VARIATIONS;
-use crate::output::print::print;
-use crate::output::print::print_next;
-use crate::output::print::print_word;
-use crate::output::show;
+// Document 01's sample recordings, held to its numbers and ticks. Their answers are printed.
+use crate::case::ANY;
+use crate::case::Case;
+use crate::case::Required;
+use crate::made::draft;
+use crate::made::manner::Manner;
+use crate::made::transfer::Sent;
+use crate::made::transfer::Transfer;
 
-pub(crate) const CASES: u32 = SAMPLES * VARIATIONS;
+// What a sample is before a step of it is changed: no steps; 256 ticks (1,0); written from no bytes; S1, written from
+// 0x41, and with SRQ set everywhere; the byte 0x80 without its step 30:2.
+const NO_STEPS: u32 = 0;
 
-pub(crate) fn put_sample(number: u32, file: &mut [u8], aside: &mut [u8]) {
-    samples::put_sample(aside, number / VARIATIONS);
-    samples::put_variation(aside, number % VARIATIONS, file);
-}
+const WAITING: u32 = 1;
 
-// Prints a sample, and gives whether it is as document 01 says. The first case is S1 as it is.
-pub(crate) fn is_as_printed(number: u32, outcome: Outcome, file: &[u8]) -> bool {
-    let sample = number / VARIATIONS;
-    let variation = number % VARIATIONS;
-    print_sample(sample, variation, outcome);
-    if number == 0 {
-        if !is_s1(file) {
-            return false;
-        }
+const NO_BYTES: u32 = 2;
+
+const S1: u32 = 3;
+
+const S1_SRQ: u32 = 4;
+
+const CARRIED: u32 = 5;
+
+// The step is one after the last; with no ticks it is none at all.
+const NEW: u32 = 65_535;
+
+// The title, what it begins as, the step that is changed, its duration and lines, and the verdict and its tick.
+struct Sample([u8; 24], u32, u32, u32, u8, u32, u32);
+
+const SAMPLES: [Sample; 20] = [
+    Sample(*b"S1                      ", S1, NEW, 0, 0, 20, 1910),
+    Sample(*b"S1, SRQ set everywhere  ", S1_SRQ, NEW, 0, 0, 20, 1910),
+    Sample(*b"S1, ATN in its last step", S1, 24, 100, 1, 23, 1910),
+    Sample(*b"S1, a further step 1:2  ", S1, NEW, 1, 2, 37, 2010),
+    Sample(*b"S1 with 199 for 220     ", S1, 2, 199, 0, 26, 449),
+    Sample(*b"S1 with 200 for 220     ", S1, 2, 200, 0, 20, ANY),
+    Sample(*b"S1 with 59 for 80       ", S1, 3, 59, 4, 28, 529),
+    Sample(*b"S1 with 61 for 40       ", S1, 4, 61, 0, 30, 611),
+    Sample(*b"S1 with 60 for 40       ", S1, 4, 60, 0, 20, ANY),
+    Sample(*b"S1 with first valid 19  ", S1, 6, 19, 4, 32, 679),
+    Sample(*b"S1 with first valid 20  ", S1, 6, 20, 4, 20, ANY),
+    Sample(*b"S1 with 1001 for 30     ", S1, 21, 1001, 2, 35, 2630),
+    Sample(*b"S1 with 1000 for 30     ", S1, 21, 1000, 2, 20, ANY),
+    Sample(*b"S1 with its last hold 99", S1, 22, 99, 6, 36, 1759),
+    Sample(*b"no steps                ", NO_STEPS, NEW, 0, 0, 22, 0),
+    Sample(*b"written from no bytes   ", NO_BYTES, NEW, 0, 0, 21, 762),
+    Sample(*b"(1,0) for 257 ticks     ", NO_STEPS, NEW, 257, 2, 24, 256),
+    Sample(*b"(1,0) 256, then (1,1)   ", WAITING, NEW, 1, 6, 22, ANY),
+    Sample(*b"0x80, no 30:2, hold 100 ", CARRIED, 21, 100, 6, 36, 1730),
+    Sample(*b"0x80, no 30:2, hold 101 ", CARRIED, 21, 101, 6, 20, ANY),
+];
+
+pub(crate) fn put(number: u32, file: &mut [u8]) -> Case {
+    let sample = SAMPLES[(number % 20) as usize];
+    put_begun(file, sample.1);
+    put_step(file, sample.2, sample.3, sample.4);
+    let title = sample.0;
+    let required = Required {
+        number: sample.5,
+        tick: sample.6,
+        ..Required::NOTHING
+    };
+    Case {
+        title,
+        required,
+        ..Case::of_file(*b"samples   ", 20, file)
     }
-    is_expected(sample, variation, outcome)
 }
 
-// Whether it is the whole file that document 01 prints, and the writer puts the same down.
-fn is_s1(file: &[u8]) -> bool {
-    let mut written = [0u8; 116];
-    writer::write(&[0x41], &mut written);
-    (file.len() == 116)
-        & (lent::first_other_byte(&samples::S1, file) == 116)
-        & (lent::first_other_byte(&samples::S1, &written) == 116)
-}
-
-// A line: the name, and number, tick, step and count; of a byte handed over the two ticks too.
-fn print_sample(sample: u32, variation: u32, outcome: Outcome) {
-    print_name(sample);
-    print_word(
-        b";, SRQ set everywhere;, ATN in the last step;, a further step 1:2;",
-        variation,
-    );
-    print(b":");
-    let answer = outcome.answer;
-    show::show_answer(answer.number as u32, answer.tick, answer.step, answer.count);
-    if answer.count != 0 {
-        print_next(outcome.let_go);
-        print_next(outcome.take);
+fn put_begun(file: &mut [u8], begun: u32) {
+    if begun == WAITING {
+        return draft::add(file, 256, draft::CLK);
     }
-    print(b"\n");
+    if begun == NO_BYTES {
+        writer::write(&[], file);
+        return;
+    }
+    if begun == S1 {
+        writer::write(&[0x41], file);
+        return;
+    }
+    if begun == S1_SRQ {
+        return put_byte(file, 0x41, 0, 30, draft::SRQ);
+    }
+    if begun == CARRIED {
+        put_byte(file, 0x80, 1, 1, 0);
+    }
 }
 
-fn print_name(sample: u32) {
-    print_word(
-        b"S1;S1 with 199 for 220;S1 with 200 for 220;S1 with 59 for 80;S1 with 61 for 40;S1 with 60 for 40;\
-          S1 with the first valid 19;S1 with the first valid 20;S1 with 1001 for 30;S1 with 1000 for 30;\
-          S1 with its last hold 99;no steps;written from no bytes;(1,0) for 257 ticks;(1,0) for 256 ticks then (1,1);\
-          the byte 0x80 without 30:2 and with the last hold 100;the byte 0x80 without 30:2 and with the last hold 101;",
-        sample,
-    );
+// One byte alone, let go and taken so many ticks after bit 8, and in each step `more` line bits.
+fn put_byte(file: &mut [u8], value: u8, let_go: u32, take: u32, more: u8) {
+    let manner = Manner { state: 0, more };
+    let sent = Sent {
+        value,
+        let_go,
+        take,
+        hold: 200,
+    };
+    let transfer = Transfer {
+        manner,
+        count: 1,
+        target: 0,
+        sent,
+    };
+    transfer.put(file);
+}
+
+fn put_step(file: &mut [u8], step: u32, duration: u32, lines: u8) {
+    if step == NEW {
+        return draft::add(file, duration, lines);
+    }
+    draft::change(file, step, duration, lines);
 }

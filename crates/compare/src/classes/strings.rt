@@ -1,25 +1,29 @@
 // Written strings of many lengths up to 799, with drawn contents.
+use crate::case::Case;
 use crate::made::draft::part;
-use crate::made::fields::fill_drawn;
-use crate::made::random::Random;
+use crate::made::manner::Manner;
 
-// Each length twice.
-pub(crate) const CASES: u32 = 126;
-
-const LENGTHS: u32 = 63;
-
-pub(crate) fn put_string(number: u32, random: Random, file: &mut [u8], string: &mut [u8]) {
-    let length = string_length(number % LENGTHS);
-    fill_drawn(string, length, random);
-    writer::write(part(string, length), file);
+pub(crate) fn put(number: u32, file: &mut [u8]) -> Case {
+    let mut string = [0u8; 799];
+    fill_drawn(&mut string, Manner::drawn(number));
+    writer::write(part(&string, length_of(number)), file);
+    Case::of_file(*b"strings   ", 128, file)
 }
 
-// 0 to 40, every 37th up to 780, 798 and 799.
-fn string_length(index: u32) -> usize {
-    match index {
-        0..=40 => index as usize,
-        41..=60 => (40 + (index - 40) * 37) as usize,
-        61 => 798,
-        _ => 799,
+// 0 to 63, and every twelfth from 43 to 799.
+fn length_of(number: u32) -> usize {
+    if number < 64 {
+        return number as usize;
+    }
+    799 - (number % 64 * 12) as usize
+}
+
+fn fill_drawn(string: &mut [u8], manner: Manner) {
+    let mut drawn = manner;
+    let mut place: usize = 0;
+    while place < string.len() {
+        drawn = drawn.next();
+        string[place] = (drawn.state >> 56) as u8;
+        place += 1;
     }
 }

@@ -1,24 +1,19 @@
-// A recording that is being put down, step after step: its own header has the steps and the ticks so far.
-use crate::made::fields;
+// A recording that is being put down, step after step: its own header is right for the steps so far. It is read and
+// changed by words of four bytes; a word beyond its end reads as 0, and nothing is put there.
 
-// Line bits of a step.
-pub(crate) const ATN: u8 = 1;
-
+// Line bits of a step; (0,0) and (1,1).
 pub(crate) const CLK: u8 = 2;
 
 pub(crate) const DATA: u8 = 4;
 
 pub(crate) const SRQ: u8 = 8;
 
-// (0,0) and (1,1).
 pub(crate) const RELEASED: u8 = 0;
 
 pub(crate) const BOTH: u8 = 6;
 
-// Where the header's fields stand.
-pub(crate) const VERSION_AT: usize = 0;
-
-pub(crate) const COUNT_AT: usize = 2;
+// The header's words: the version with the step count above it, the first step's place, the total and the length.
+pub(crate) const COUNT_AT: usize = 0;
 
 pub(crate) const OFFSET_AT: usize = 4;
 
@@ -26,73 +21,106 @@ pub(crate) const TOTAL_AT: usize = 8;
 
 pub(crate) const LENGTH_AT: usize = 12;
 
-// One step more than a recording may have.
-const MOST_STEPS: u32 = 16_001;
+// One step is so much in the word with the step count, and one line bit so much in a step's word.
+const UPPER: u32 = 65_536;
+
+pub(crate) fn word_at(file: &[u8], at: usize) -> u32 {
+    if file.len() < 4 {
+        return 0;
+    }
+    if file.len() - 4 < at {
+        return 0;
+    }
+    join(file[at], file[at + 1], file[at + 2], file[at + 3])
+}
+
+fn join(first: u8, second: u8, third: u8, fourth: u8) -> u32 {
+    (first as u32) + (second as u32) * 256 + (third as u32) * 65_536 + (fourth as u32) * 16_777_216
+}
+
+pub(crate) fn put_word(file: &mut [u8], at: usize, word: u32) {
+    put_byte(file, at, word);
+    put_byte(file, std::num::wrapping_add_usize(at, 1), word / 256);
+    put_byte(file, std::num::wrapping_add_usize(at, 2), word / 65_536);
+    put_byte(file, std::num::wrapping_add_usize(at, 3), word / 16_777_216);
+}
+
+fn put_byte(file: &mut [u8], at: usize, byte: u32) {
+    if at < file.len() {
+        file[at] = (byte % 256) as u8;
+    }
+}
+
+fn raise(file: &mut [u8], at: usize, by: u32) {
+    let word = word_at(file, at);
+    put_word(file, at, std::num::wrapping_add_u32(word, by));
+}
 
 // Version 1 with no steps.
 pub(crate) fn begin(file: &mut [u8]) {
-    fields::put_u32(file, VERSION_AT, 1);
-    fields::put_u32(file, OFFSET_AT, 16);
-    fields::put_u32(file, TOTAL_AT, 0);
+    put_word(file, COUNT_AT, 1);
+    put_word(file, OFFSET_AT, 16);
+    put_word(file, TOTAL_AT, 0);
+    put_word(file, LENGTH_AT, 16);
 }
 
-// Puts one more step down; none for no ticks.
+// Puts one more step down; none for no ticks, and none where there is no room.
 pub(crate) fn add(file: &mut [u8], duration: u32, lines: u8) {
-    let steps = fields::u16_at(file, COUNT_AT);
     if duration == 0 {
         return;
     }
-    if MOST_STEPS <= steps {
+    let length = word_at(file, LENGTH_AT) as usize;
+    if file.len() <= length {
         return;
     }
-    let total = fields::u32_at(file, TOTAL_AT);
-    let step = duration % 65_536 + (lines as u32) * 65_536;
-    fields::put_u32(file, step_place(steps), step);
-    fields::put_u16(file, COUNT_AT, steps + 1);
-    fields::put_u32(file, TOTAL_AT, std::num::wrapping_add_u32(total, duration));
+    put_word(file, length, step_word(duration, lines));
+    raise(file, COUNT_AT, UPPER);
+    raise(file, TOTAL_AT, duration);
+    raise(file, LENGTH_AT, 4);
 }
 
-// Puts the file's length into the header, and gives it.
-pub(crate) fn finish(file: &mut [u8]) -> usize {
-    let steps = fields::u16_at(file, COUNT_AT) % 65_536;
-    fields::put_u32(file, LENGTH_AT, 16 + 4 * steps);
-    step_place(steps)
+fn step_word(duration: u32, lines: u8) -> u32 {
+    duration % UPPER + (lines as u32) * UPPER
 }
 
-// Where a step begins.
-pub(crate) fn step_place(step: u32) -> usize {
+// Changes a step, and the total with it.
+pub(crate) fn change(file: &mut [u8], step: u32, duration: u32, lines: u8) {
+    let before = duration_at(file, step);
+    put_word(file, step_place(step), step_word(duration, lines));
+    raise(file, TOTAL_AT, std::num::wrapping_sub_u32(duration, before));
+}
+
+fn step_place(step: u32) -> usize {
     16 + 4 * (step as usize)
 }
 
-// Where its line byte and its last byte stand.
-pub(crate) fn lines_place(step: u32) -> usize {
-    18 + 4 * (step as usize)
+fn duration_at(file: &[u8], step: u32) -> u32 {
+    word_at(file, step_place(step)) % UPPER
 }
 
-pub(crate) fn last_place(step: u32) -> usize {
-    19 + 4 * (step as usize)
+pub(crate) fn set_duration(file: &mut [u8], step: u32, duration: u32) {
+    let lines = word_at(file, step_place(step)) / UPPER;
+    change(file, step, duration, (lines % 256) as u8);
 }
 
-pub(crate) fn duration_at(file: &[u8], step: u32) -> u32 {
-    fields::u16_at(file, step_place(step))
-}
-
-pub(crate) fn lines_at(file: &[u8], step: u32) -> u8 {
-    fields::byte_at(file, lines_place(step))
-}
-
-// How many whole steps a file of this length has.
-pub(crate) fn steps_in(length: usize) -> u32 {
-    if length < 16 {
-        return 0;
-    }
-    ((length - 16) / 4 % 65_536) as u32
+pub(crate) fn set_lines(file: &mut [u8], step: u32, lines: u8) {
+    let duration = duration_at(file, step);
+    change(file, step, duration, lines);
 }
 
 // The first bytes of a file.
 pub(crate) fn part(file: &[u8], length: usize) -> &[u8] {
     if length <= file.len() {
         return &file[0..length];
+    }
+    file
+}
+
+// Room for a recording up to this step and no more.
+pub(crate) fn room_up_to(file: &mut [u8], step: u32) -> &mut [u8] {
+    let end = 20 + 4 * (step as usize);
+    if end <= file.len() {
+        return &mut file[0..end];
     }
     file
 }

@@ -1,110 +1,105 @@
-// The pieces of a transfer, each put down after what a file has.
-use crate::made::bits::put_bits;
-use crate::made::draft::BOTH;
-use crate::made::draft::CLK;
-use crate::made::draft::DATA;
-use crate::made::draft::RELEASED;
-use crate::made::random::Random;
-use crate::made::ticks::Stretch;
-use crate::made::ticks::put_stretch;
-use crate::made::ticks::put_ticks;
+// The pieces of a transfer, each put down after what a file has. Each gives the manner for what comes next.
+use crate::made::draft;
+use crate::made::manner::Manner;
 
-// Where each piece begins in the list of stretches: the start; from the release of CLK to the pull that begins the
-// bits, of a byte and of the last one; and the end.
-const START: u32 = 0;
+// The writer's time; the least and the most ticks that the two parties' own rules allow, where they give no end some
+// number; and the lines.
+struct Stretch(u32, u32, u32, u8);
 
-const BYTE: u32 = 2;
+impl Stretch {
+    fn ticks(self, manner: Manner) -> u32 {
+        if manner.state == 0 {
+            return self.0;
+        }
+        manner.within(self.1, self.2)
+    }
+}
+
+// Where each piece begins in the list: the start; from the release of CLK to the pull that begins the bits, of a byte
+// and of the last one; and the end.
+pub(crate) const START: u32 = 0;
+
+pub(crate) const BYTE: u32 = 2;
 
 const LAST_BYTE: u32 = 4;
 
-const END: u32 = 8;
+pub(crate) const END: u32 = 8;
+
+pub(crate) const ALL: u32 = 10;
 
 const STRETCHES: [Stretch; 10] = [
     // The sender pulls CLK from tick 0, and the receiver takes DATA.
-    Stretch(0, 0, 256, CLK),
-    Stretch(200, 1, 400, BOTH),
+    Stretch(0, 0, 256, draft::CLK),
+    Stretch(200, 1, 400, draft::BOTH),
     // The sender is ready to send, and both let go.
-    Stretch(50, 1, 400, DATA),
-    Stretch(60, 1, 199, RELEASED),
+    Stretch(50, 1, 400, draft::DATA),
+    Stretch(60, 1, 199, draft::RELEASED),
     // The same before the last byte, with the acknowledgement.
-    Stretch(50, 1, 400, DATA),
-    Stretch(220, 200, 290, RELEASED),
-    Stretch(80, 60, 150, DATA),
-    Stretch(40, 1, 60, RELEASED),
+    Stretch(50, 1, 400, draft::DATA),
+    Stretch(220, 200, 290, draft::RELEASED),
+    Stretch(80, 60, 150, draft::DATA),
+    Stretch(40, 1, 60, draft::RELEASED),
     // The last letting go, and nobody pulls anything from it on.
-    Stretch(50, 1, 400, DATA),
-    Stretch(100, 1, 400, RELEASED),
+    Stretch(50, 1, 400, draft::DATA),
+    Stretch(100, 1, 400, draft::RELEASED),
 ];
 
-fn put_stretches(file: &mut [u8], random: Random, from: u32, to: u32) -> Random {
-    let mut drawn = random;
+pub(crate) fn put_stretches(file: &mut [u8], manner: Manner, from: u32, to: u32) -> Manner {
+    let mut next = manner;
     let mut index = from;
     while index < to {
-        drawn = put_stretch(file, drawn, STRETCHES[(index % 10) as usize]);
+        next = put_stretch(file, next, STRETCHES[(index % 10) as usize]);
         index += 1;
     }
-    drawn
+    next
 }
 
-pub(crate) fn put_start(file: &mut [u8], random: Random) -> Random {
-    put_stretches(file, random, START, BYTE)
+fn put_stretch(file: &mut [u8], manner: Manner, stretch: Stretch) -> Manner {
+    let drawn = manner.next();
+    put_ticks(file, drawn, stretch.ticks(drawn), stretch.3)
 }
 
-pub(crate) fn put_end(file: &mut [u8], random: Random) -> Random {
-    put_stretches(file, random, END, 10)
+// So many ticks with the same lines: where something is drawn, in two neighbouring steps.
+pub(crate) fn put_ticks(file: &mut [u8], manner: Manner, ticks: u32, lines: u8) -> Manner {
+    let drawn = manner.next();
+    let next = drawn.next();
+    let first = drawn.below(ticks);
+    let rest = std::num::wrapping_sub_u32(ticks, first);
+    draft::add(file, first, drawn.lines(lines));
+    draft::add(file, rest, next.lines(lines));
+    next
 }
 
-// A byte up to the CLK pull after its bit 8.
-pub(crate) fn put_sent(file: &mut [u8], random: Random, is_last: bool, value: u8) -> Random {
-    let begun = put_lead(file, random, is_last);
-    put_bits(file, begun, value)
-}
-
-fn put_lead(file: &mut [u8], random: Random, is_last: bool) -> Random {
+// What leads to a byte's bits.
+pub(crate) fn put_lead(file: &mut [u8], manner: Manner, is_last: bool) -> Manner {
     if is_last {
-        return put_stretches(file, random, LAST_BYTE, END);
+        return put_stretches(file, manner, LAST_BYTE, END);
     }
-    put_stretches(file, random, BYTE, LAST_BYTE)
+    put_stretches(file, manner, BYTE, LAST_BYTE)
 }
 
-// A byte's handover: if bit 8 is one the sender lets go of DATA, and the receiver takes it, so many ticks after the
-// CLK pull after bit 8; and CLK stays pulled so long after the take.
-pub(crate) struct Handover {
-    pub let_go: u32,
-    pub take: u32,
-    pub hold: u32,
-}
-
-impl Handover {
-    // The writer's.
-    pub(crate) const USUAL: Handover = Handover {
-        let_go: 0,
-        take: 30,
-        hold: 200,
-    };
-
-    // Where bit 8 is zero, the letting go stands as offset 0.
-    pub(crate) fn of_value(self, value: u8) -> Handover {
-        if value < 128 {
-            return Handover { let_go: 0, ..self };
-        }
-        self
+// Eight bits, least significant first, pulled is one.
+pub(crate) fn put_bits(file: &mut [u8], manner: Manner, value: u8) -> Manner {
+    let mut next = manner;
+    let mut left = value;
+    let mut bit: u32 = 0;
+    while bit < 8 {
+        next = put_bit(file, next, left % 2 * draft::DATA);
+        left = left / 2;
+        bit += 1;
     }
+    next
 }
 
-// DATA is pulled by the sender before its letting go, and by the receiver from its take on.
-pub(crate) fn put_handover(file: &mut [u8], random: Random, handover: Handover) -> Random {
-    if handover.take <= handover.let_go {
-        let carried = std::num::wrapping_add_u32(handover.take, handover.hold);
-        return put_ticks(file, random, carried, BOTH);
-    }
-    let carried = put_ticks(file, random, handover.let_go, BOTH);
-    let taken = put_ticks(file, carried, handover.take - handover.let_go, CLK);
-    put_ticks(file, taken, handover.hold, BOTH)
-}
-
-// One byte, in the writer's times but for its handover.
-pub(crate) fn put_byte(file: &mut [u8], is_last: bool, value: u8, handover: Handover) {
-    put_sent(file, Random::NONE, is_last, value);
-    put_handover(file, Random::NONE, handover.of_value(value));
+// DATA is free before the last set-up tick, so a drawn set-up shows anything for some ticks first.
+fn put_bit(file: &mut [u8], manner: Manner, data: u8) -> Manner {
+    let drawn = manner.next();
+    let ticks = Stretch(70, 1, 200, draft::CLK).ticks(drawn);
+    let next = drawn.next();
+    let free = next.below(ticks);
+    let rest = std::num::wrapping_sub_u32(ticks, free);
+    let shown = (next.state % 2) as u8 * draft::DATA;
+    let begun = put_ticks(file, next, free, draft::CLK | shown);
+    let ready = put_ticks(file, begun, rest, draft::CLK | data);
+    put_stretch(file, ready, Stretch(60, 20, 200, data))
 }

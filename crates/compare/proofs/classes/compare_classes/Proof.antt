@@ -1,4 +1,4 @@
--- `classes::compare_classes` is safe and ends. The loop keeps the lengths; the classes left are the measure. Assumes nothing.
+-- `classes::compare_classes` is safe and ends. The loop keeps the length; the classes left are the measure. Assumes nothing.
 use Prim.Native.Nat.{_-_}
 use mathlib.Core.Path.{_≡_}
 use borrow.Author.Needs.{needs}
@@ -7,17 +7,13 @@ use Rattle.compare.proofs.classes.compare_classes.Statement.{statement}
 use Rattle.compare.proofs.classes.compare_classes.Tie as tie
 
 abbrev Inv-loop : tie.InvT-loop
-Inv-loop file₀ spare₀ scores₀ class₀ file spare scores class =
-    (length file ≡ length file₀)
-    × (length spare ≡ length spare₀)
-    × (length scores ≡ length scores₀)
+Inv-loop file₀ tally₀ class₀ file tally class = length file ≡ length file₀
 
 abbrev μ-loop : tie.MeasureT-loop
-μ-loop file₀ spare₀ scores₀ class₀ file spare scores class = 10 - class
+μ-loop file₀ tally₀ class₀ file tally class = 16 - class
 
 pub compare-classes-spec : {M : Type 1} → statement M
 compare-classes-spec =
     tie.close
-    (tie.spec Inv-loop μ-loop (λ c. search needs) (λ c. search needs) (λ c. search needs) (λ c. search needs)
-    (λ c κs. search needs) (λ c. search needs) (λ c. search needs) (λ c. search needs) (λ c. search needs)
+    (tie.spec Inv-loop μ-loop (λ c. search needs) (λ c κs. search needs) (λ c. search needs) (λ c. search needs)
     (λ c. search needs) (λ c. search needs) (λ c. search needs))

@@ -7,10 +7,10 @@ use Rattle.compare.proofs.made.pieces.put_stretches.Statement.{statemen
 use Rattle.compare.proofs.made.pieces.put_stretches.Tie as tie
 
 abbrev Inv-loop : tie.InvT-loop
-Inv-loop file₀ from to drawn₀ index₀ file drawn index = length file ≡ length file₀
+Inv-loop file₀ from to next₀ index₀ file next index = length file ≡ length file₀
 
 abbrev μ-loop : tie.MeasureT-loop
-μ-loop file₀ from to drawn₀ index₀ file drawn index = to - index
+μ-loop file₀ from to next₀ index₀ file next index = to - index
 
 pub put-stretches-spec : {M : Type 1} → statement M
 put-stretches-spec =
