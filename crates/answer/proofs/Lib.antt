@@ -1,2 +1,3 @@
 -- Why it holds. The crates above cite Numbers.
 pub mod Numbers
+mod NameLaws

@@ -1,5 +1,7 @@
 -- What every entry answers and leaves in lent memory.
 pub mod Choice
+pub mod Text
 pub mod Numbers
 pub mod Answers
 pub mod Lent
+pub mod Names

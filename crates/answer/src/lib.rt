@@ -2,9 +2,12 @@
 ghost use mathlib.Core.Path.{_≡_};
 ghost use Rattle.answer.specs.Answers.{refused, accepted};
 
+mod names;
 mod refusal;
 mod verdict;
 
+pub use crate::names::Name;
+pub use crate::names::name_of;
 pub use crate::refusal::Refusal;
 pub use crate::verdict::Fault;
 pub use crate::verdict::Verdict;

@@ -1,0 +1,105 @@
+-- A table's rows are the words of their numbers; a row read up to its first space. Assumes nothing.
+use Prim.Native.Nat.{ℕ, zero, suc, _+_, _-_, _*_, _<_, _≤_}
+use native.Mathlib.Omega.{arith}
+use native.Mathlib.Numerals.{add-one}
+use borrow.Author.Tests.{eq-eqb, ne-eqb}
+use mathlib.Core.List.{List, [], _∷_, _++_, append-assoc, append-nil}
+use mathlib.Core.Path.{_≡_, refl, ap, sym, subst, _∙_}
+use lib.ListN.{length, getD, take, drop, set, length-set}
+use lib.Seq.{drop-cons, take-suc-set}
+use Rattle.answer.specs.Names.{Word, _is_, words, wordAmong, wordOf, wordIn, wordAt, Spells}
+use Rattle.answer.specs.Text.{ascii, space}
+use Rattle.answer.specs.declared.names.Name.{Name}
+
+-- What a function gives for so many numbers from one on.
+abbrev pub counted : {A : Type 0} (f : ℕ → A) (from count : ℕ) → List A
+counted f from zero = []
+counted f from (suc count) = f from ∷ counted f (suc from) count
+
+getD-counted : {A : Type 0} (f : ℕ → A) (from count place : ℕ) (d : A) → place < count
+    → getD (counted f from count) place d ≡ f (from + place)
+getD-counted f from zero place d h = absurd (omega arith)
+getD-counted f from (suc count) zero d h = ap f (omega arith)
+getD-counted f from (suc count) (suc place) d h = getD-counted f (suc from) count place d (omega arith) ∙ ap f (omega arith)
+
+-- Two functions that agree below a bound, by one computation, agree at each number below it.
+agree : {A : Type 0} (f g : ℕ → A) (count n : ℕ) → counted f 0 count ≡ counted g 0 count → n < count → f n ≡ g n
+agree {A} f g count n e h =
+    let at : (k : ℕ → A) → getD (counted k 0 count) n (f 0) ≡ k n = λ k. getD-counted k 0 count n (f 0) h ∙ ap k (omega arith) in
+    sym (at f) ∙ ap (λ (l : List A). getD l n (f 0)) e ∙ at g
+
+-- A row of a table whose rows, so many, are the words of the numbers from 0 on.
+pub row-spells : {name : Name} (rows : List ℕ) (count n : ℕ) → n < count → Spells (wordAt rows (n * 25)) name
+    → counted (λ k. wordAt rows (k * 25)) 0 count ≡ counted wordOf 0 count → Spells (wordOf n) name
+row-spells {name} rows count n h s e =
+    subst (λ (word : List ℕ). Spells word name) (agree (λ k. wordAt rows (k * 25)) wordOf count n e h) s
+
+-- The first number above all that have words.
+abbrev pub aboveAll : List Word → ℕ
+aboveAll [] = 0
+aboveAll (n is word ∷ rest) = suc n + (aboveAll rest - suc n)
+
+no-word : (words : List Word) (number : ℕ) → aboveAll words ≤ number → wordAmong words number ≡ "no-such-number"
+no-word [] number h = refl
+no-word (n is word ∷ rest) number h = rw (ne-eqb number n (λ e. omega arith)) (no-word rest number (omega arith))
+
+pub other-spells : {name : Name} {word : List ℕ} (number : ℕ) → aboveAll words ≤ number → Spells word name
+    → word ≡ ascii "no-such-number" → Spells (wordOf number) name
+unfolding wordOf
+other-spells {name} number h s e =
+    subst (λ (word : List ℕ). Spells word name) (e ∙ ap ascii (sym (no-word words number h))) s
+
+-- The first n characters of the row at this place are copied, and none of them is a space.
+pub record Read (rows : List ℕ) (from : ℕ) (characters : List ℕ) (n : ℕ) : Type 0 where
+  pub within : n ≤ 25
+  pub places : length characters ≡ 25
+  pub word : wordAt rows from ≡ take n characters ++ wordIn (25 - n) (drop (from + n) rows)
+
+pub read-none : (rows : List ℕ) (from : ℕ) (characters : List ℕ) → length characters ≡ 25 → Read rows from characters 0
+unfolding wordAt
+read-none rows from characters long =
+    let here : from ≡ from + 0 = omega arith in
+    record { within = omega arith; places = long; word = ap (λ (k : ℕ). wordIn 25 (drop k rows)) here }
+
+goes-on : (most c : ℕ) (rest : List ℕ) → (c ≡ space → ⊥) → wordIn (suc most) (c ∷ rest) ≡ c ∷ wordIn most rest
+unfolding wordIn
+goes-on most c rest other = rw (ne-eqb c space other)
+
+ends : (most c : ℕ) (rest : List ℕ) → c ≡ space → wordIn (suc most) (c ∷ rest) ≡ []
+unfolding wordIn
+ends most c rest e = rw (eq-eqb c space e)
+
+module _ (rows : List ℕ) (from : ℕ) (characters : List ℕ) (n : ℕ) (read : Read rows from characters n) where
+  one-more : n < 25 → 25 - n ≡ suc (25 - (n + 1))
+  one-more more = omega arith
+
+  pub read-next : n < 25 → from + 25 ≤ length rows → (getD rows (from + n) 0 ≡ space → ⊥)
+      → Read rows from (set characters n (getD rows (from + n) 0)) (n + 1)
+  read-next more fit other =
+      let c = getD rows (from + n) 0 in
+      let rest = wordIn (25 - (n + 1)) (drop (from + (n + 1)) rows) in
+      let next : suc (from + n) ≡ from + (n + 1) = omega arith in
+      let step : wordIn (25 - n) (drop (from + n) rows) ≡ c ∷ rest =
+      rw (one-more more, drop-cons rows (from + n) 0 (omega arith), next) (goes-on _ _ _ other) in
+      record {
+        within = omega arith;
+        places = length-set characters n c ∙ read .places;
+        word =
+            read .word ∙ ap (λ (l : List ℕ). take n characters ++ l) step
+            ∙ rw (add-one n, take-suc-set characters n c (omega arith), append-assoc);
+      }
+
+  read-end : wordIn (25 - n) (drop (from + n) rows) ≡ [] → Spells (wordAt rows from) (record { characters = characters; length = n })
+  read-end e =
+      let word = read .word ∙ ap (λ (l : List ℕ). take n characters ++ l) e ∙ append-nil (take n characters) in
+      record { fits = omega arith; spelt = sym word }
+
+  pub read-space : n < 25 → from + 25 ≤ length rows → getD rows (from + n) 0 ≡ space
+      → Spells (wordAt rows from) (record { characters = characters; length = n })
+  read-space more fit e = read-end (rw (one-more more, drop-cons rows (from + n) 0 (omega arith)) (ends _ _ _ e))
+
+  pub read-full : 25 ≤ n → Spells (wordAt rows from) (record { characters = characters; length = n })
+  unfolding wordIn
+  read-full full =
+      let none : 25 - n ≡ 0 = omega arith in
+      read-end (ap (λ (k : ℕ). wordIn k (drop (from + n) rows)) none)

@@ -1,0 +1,72 @@
+-- The word that the programs print for each of the numbers in Numbers.
+use Prim.Native.Nat.{ℕ, zero, suc, _≤_}
+use Prim.Native.String.{String}
+use mathlib.Core.List.{List, [], _∷_}
+use mathlib.Core.Path.{_≡_}
+use lib.Dec.{eqb}
+use lib.ListN.{length, drop}
+use Rattle.answer.specs.Choice.{if_then_else_}
+use Rattle.answer.specs.Lent.{first}
+use Rattle.answer.specs.Text.{ascii, space}
+use Rattle.answer.specs.declared.names.Name.{Name}
+
+infix 70 _is_
+pub data Word : Type 0 where
+  _is_ : ℕ → String → Word
+
+-- 0 is the writer's answer where it wrote, 1 to 11 are refusals, 20 to 37 verdicts. A new number is one more line here.
+abbrev pub words : List Word
+words =
+    0 is "written"
+    ∷ 1 is "short-file"
+    ∷ 2 is "wrong-version"
+    ∷ 3 is "too-many-steps"
+    ∷ 4 is "wrong-offset"
+    ∷ 5 is "wrong-length"
+    ∷ 6 is "zero-duration"
+    ∷ 7 is "stray-bits"
+    ∷ 8 is "wrong-total"
+    ∷ 9 is "short-buffers"
+    ∷ 10 is "too-many-bytes"
+    ∷ 11 is "short-destination"
+    ∷ 20 is "complete"
+    ∷ 21 is "empty-stream"
+    ∷ 22 is "cut"
+    ∷ 23 is "attention"
+    ∷ 24 is "no-receiver"
+    ∷ 25 is "bad-start"
+    ∷ 26 is "out-of-turn"
+    ∷ 27 is "end-mark-not-acknowledged"
+    ∷ 28 is "acknowledgement-short"
+    ∷ 29 is "acknowledgement-long"
+    ∷ 30 is "late-clock"
+    ∷ 31 is "sender-time-out"
+    ∷ 32 is "valid-time-short"
+    ∷ 33 is "data-moved"
+    ∷ 34 is "clock-stall"
+    ∷ 35 is "receiver-time-out"
+    ∷ 36 is "hurried"
+    ∷ 37 is "moved-after-the-end"
+    ∷ []
+
+abbrev pub wordAmong : List Word → (number : ℕ) → String
+wordAmong [] number = "no-such-number"
+wordAmong (n is word ∷ rest) number = if eqb number n then word else wordAmong rest number
+
+unfoldable pub wordOf : (number : ℕ) → List ℕ
+wordOf number = ascii (wordAmong words number)
+
+-- The characters of a name that count are the word's.
+pub record Spells (word : List ℕ) (name : Name) : Type 0 where
+  pub fits : name .length ≤ length (name .characters)
+  pub spelt : first (name .length) (name .characters) ≡ word
+
+-- The characters before the first space, at most so many.
+unfoldable pub wordIn : (most : ℕ) (characters : List ℕ) → List ℕ
+wordIn zero characters = []
+wordIn (suc most) [] = []
+wordIn (suc most) (c ∷ characters) = if eqb c space then [] else c ∷ wordIn most characters
+
+-- The word of the row that begins at this place.
+unfoldable pub wordAt : (rows : List ℕ) (from : ℕ) → List ℕ
+wordAt rows from = wordIn 25 (drop from rows)

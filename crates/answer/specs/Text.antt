@@ -1,0 +1,13 @@
+-- Text as bytes.
+use Prim.Native.Char.{code}
+use Prim.Native.Nat.{ℕ}
+use Prim.Native.String.{String, [] as end, _∷_ as _then_}
+use mathlib.Core.List.{List, [], _∷_}
+
+-- The bytes of a text; its characters are those of ASCII, one byte each.
+abbrev pub ascii : String → List ℕ
+ascii end = []
+ascii (c then text) = code c ∷ ascii text
+
+abbrev pub space : ℕ
+space = code " "

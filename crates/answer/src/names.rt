@@ -1,0 +1,88 @@
+// One word for each number of an answer, after document 01's tables.
+ghost use Prim.Native.Nat.{_+_, _≤_};
+ghost use lib.ListN.{length};
+ghost use Rattle.answer.specs.Names.{wordAt, wordOf, Spells};
+
+// The first `length` characters are the word.
+pub struct Name {
+    pub characters: [u8; WIDTH],
+    pub length: usize,
+}
+
+// A row's length: the longest word has no space after it.
+const WIDTH: usize = 25;
+
+// How many numbers have a row, from 0 on: a new number is one more row.
+const ROWS: usize = 38;
+
+// 0 is the writer's answer where it wrote; "Refusals" are next, and "Verdicts" from 20 on.
+const WORDS: [u8; ROWS * WIDTH] = *b"\
+    written                  \
+    short-file               \
+    wrong-version            \
+    too-many-steps           \
+    wrong-offset             \
+    wrong-length             \
+    zero-duration            \
+    stray-bits               \
+    wrong-total              \
+    short-buffers            \
+    too-many-bytes           \
+    short-destination        \
+    no-such-number           \
+    no-such-number           \
+    no-such-number           \
+    no-such-number           \
+    no-such-number           \
+    no-such-number           \
+    no-such-number           \
+    no-such-number           \
+    complete                 \
+    empty-stream             \
+    cut                      \
+    attention                \
+    no-receiver              \
+    bad-start                \
+    out-of-turn              \
+    end-mark-not-acknowledged\
+    acknowledgement-short    \
+    acknowledgement-long     \
+    late-clock               \
+    sender-time-out          \
+    valid-time-short         \
+    data-moved               \
+    clock-stall              \
+    receiver-time-out        \
+    hurried                  \
+    moved-after-the-end      ";
+
+const NO_SUCH_NUMBER: [u8; WIDTH] = *b"no-such-number           ";
+
+// The word that the programs print for this number.
+pub fn name_of(number: u8) -> Name
+    ensures { λ r. ⌜ Spells (wordOf number) r ⌝ }
+{
+    let row = number as usize;
+    if row < ROWS {
+        return name_at(&WORDS, row * WIDTH);
+    }
+    name_at(&NO_SUCH_NUMBER, 0)
+}
+
+// The word of the row that begins at this place: it ends before the row's first space.
+fn name_at(words: &[u8], from: usize) -> Name
+    requires { ⌜ from + 25 ≤ length (now words) ⌝ }
+    ensures { λ r. ⌜ Spells (wordAt (now (words .entry)) from) r ⌝ }
+{
+    let mut characters: [u8; WIDTH] = [0; WIDTH];
+    let mut length: usize = 0;
+    while length < WIDTH {
+        let character = words[from + length];
+        if character == b' ' {
+            break;
+        }
+        characters[length] = character;
+        length += 1;
+    }
+    Name { characters, length }
+}
