@@ -1,5 +1,4 @@
 // An answer as a line of text.
-use crate::names::print_name;
 use answer::Answer;
 
 // Prints `NUMBER TICK STEP COUNT NAME FILE`, and answers whether all of it was written.
@@ -16,6 +15,14 @@ pub fn print_answer(descriptor: i32, answer: Answer, file: &[u8]) -> bool {
 
 fn print_number(descriptor: i32, number: u32) -> bool {
     io::print_decimal(descriptor, number as u64) && io::write_all(descriptor, b" ")
+}
+
+// Prints the name of the number, and answers whether it was written.
+pub fn print_name(descriptor: i32, number: u8) -> bool {
+    let name = answer::name_of(number);
+    let characters = name.characters;
+    let length = name.length;
+    io::write_all(descriptor, &characters[..length])
 }
 
 // Prints `- - - - FAILURE FILE`, the line of a file that has no answer, and answers whether all of it was written.
