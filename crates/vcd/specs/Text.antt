@@ -1,15 +1,11 @@
 -- Text as bytes.
 use Prim.Native.Char.{code}
 use Prim.Native.Nat.{ℕ, zero, suc, _+_, _/_, _%_}
-use Prim.Native.String.{String, [] as end, _∷_ as _then_}
+use Prim.Native.String.{String}
 use mathlib.Core.List.{List, [], _∷_, _++_}
 use lib.Dec.{ltb}
 use Rattle.answer.specs.Choice.{if_then_else_}
-
--- The bytes of a text; its characters are those of ASCII, one byte each.
-abbrev pub ascii : String → List ℕ
-ascii end = []
-ascii (c then text) = code c ∷ ascii text
+use Rattle.answer.specs.Text.{ascii}
 
 abbrev pub newline : ℕ
 newline = code "\n"
