@@ -95,7 +95,8 @@ module _ (L : Limits) (times : Consistent L) (file bytes ledger : List ℕ) wher
   is-number : got ≡ verdictLeaves (stepsOf file) read bytes ledger → verdictNumber (read .decision .verdict) ≡ got .answer .number
   is-number is = ap (λ (j : Judged). j .answer .number) (sym is)
 
-  no-verdict : (r : Refusal) (step : ℕ) → got ≡ leaves (refused r step) bytes ledger → (v : Verdict) → verdictNumber v ≡ got .answer .number → ⊥
+  no-verdict : (r : Refusal) (step : ℕ) → got ≡ leaves (refused r step) bytes ledger → (v : Verdict)
+      → verdictNumber v ≡ got .answer .number → ⊥
   no-verdict r step is v e = verdicts-are-no-refusals v r (e ∙ ap (λ (j : Judged). j .answer .number) is)
 
   -- A decision that is complete was taken in E, and its tick is the finish tick.
@@ -118,7 +119,8 @@ module _ (L : Limits) (times : Consistent L) (file bytes ledger : List ℕ) wher
       (record {
         form = form;
         in-end =
-            subst⁻¹ (λ (o : Outcome). stateAfter L firstState (tickList file) .phase ≡ End (o .decision .tick)) e (complete-ends _ _ complete);
+            subst⁻¹ (λ (o : Outcome). stateAfter L firstState (tickList file) .phase ≡ End (o .decision .tick)) e
+            (complete-ends _ _ complete);
       })
 
   sends-a-byte : Kind → got .answer .number ≡ 20 → 1 ≤ got .answer .count

@@ -65,11 +65,15 @@ same-is true b e = e
 same-is false true e = absurd (false≢true e)
 same-is false false e = refl
 
+-- A row whose time is not over.
+stays-below : (n since now : ℕ) (x y : Move) → below n since now ≡ true → (if below n since now then x else y) ≡ x
+stays-below n since now x y e = ap (λ (t : Bool). if t then x else y) e
+
 -- The lines that a phase is settled in keep it at each idle tick.
 kept-row : (L : Limits) (p : Phase) (c d : Bool) (now most j : ℕ) → rests p c d ≡ true → j < idleTicks L p now most
     → next L (now + j) p c d ≡ Go p
 unfolding next
-kept-row L Start true false now most j e h = rw (each-below _ _ _ _ j h)
+kept-row L Start true false now most j e h = stays-below _ _ _ _ _ (each-below _ _ _ _ j h)
 kept-row L Start true true now most j e h = absurd (false≢true e)
 kept-row L Start false d now most j e h = absurd (false≢true e)
 kept-row L FirstHold true true now most j e h = refl
@@ -81,21 +85,23 @@ kept-row L (Hold end-mark value take let-go) false d now most j e h = absurd (fa
 kept-row L (ReadyToSend some-handed ended) false true now most j e h = refl
 kept-row L (ReadyToSend some-handed ended) false false now most j e h = absurd (false≢true e)
 kept-row L (ReadyToSend some-handed ended) true d now most j e h = absurd (false≢true e)
-kept-row L (ReadyForData some-handed since) false false now most j e h = rw (each-below _ _ _ _ j h)
+kept-row L (ReadyForData some-handed since) false false now most j e h = stays-below _ _ _ _ _ (each-below _ _ _ _ j h)
 kept-row L (ReadyForData some-handed since) false true now most j e h = absurd (false≢true e)
 kept-row L (ReadyForData some-handed since) true d now most j e h = absurd (false≢true e)
-kept-row L (Acknowledgement some-handed since ready-tick) false true now most j e h = rw (each-below _ _ _ _ j h)
+kept-row L (Acknowledgement some-handed since ready-tick) false true now most j e h = stays-below _ _ _ _ _ (each-below _ _ _ _ j h)
 kept-row L (Acknowledgement some-handed since ready-tick) false false now most j e h = absurd (false≢true e)
 kept-row L (Acknowledgement some-handed since ready-tick) true d now most j e h = absurd (false≢true e)
-kept-row L (Acknowledged some-handed since ready-tick) false false now most j e h = rw (each-below _ _ _ _ j h)
+kept-row L (Acknowledged some-handed since ready-tick) false false now most j e h = stays-below _ _ _ _ _ (each-below _ _ _ _ j h)
 kept-row L (Acknowledged some-handed since ready-tick) false true now most j e h = absurd (false≢true e)
 kept-row L (Acknowledged some-handed since ready-tick) true d now most j e h = absurd (false≢true e)
 kept-row L (SetUp end-mark value last since bits-left) true d now most j e h =
-    rw (each-below _ _ _ _ j h) (ap (λ (b : Bool). Go (SetUp end-mark value b since bits-left)) (same-is last d e))
+    stays-below _ _ _ _ _ (each-below _ _ _ _ j h)
+    ∙ ap (λ (b : Bool). Go (SetUp end-mark value b since bits-left)) (same-is last d e)
 kept-row L (SetUp end-mark value last since bits-left) false d now most j e h = absurd (false≢true e)
-kept-row L (Valid end-mark value bit since bits-left) false d now most j e h = rw (e, each-below _ _ _ _ j h)
+kept-row L (Valid end-mark value bit since bits-left) false d now most j e h =
+    rw e (stays-below _ _ _ _ _ (each-below _ _ _ _ j h))
 kept-row L (Valid end-mark value bit since bits-left) true d now most j e h = absurd (false≢true e)
-kept-row L (Open end-mark value since let-go) true false now most j e h = rw (each-below _ _ _ _ j h)
+kept-row L (Open end-mark value since let-go) true false now most j e h = stays-below _ _ _ _ _ (each-below _ _ _ _ j h)
 kept-row L (Open end-mark value since let-go) true true now most j e h = absurd (false≢true e)
 kept-row L (Open end-mark value since let-go) false d now most j e h = absurd (false≢true e)
 kept-row L (Carried end-mark value since) true true now most j e h = refl

@@ -16,7 +16,8 @@ use Rattle.answer.specs.Lent.{_over_}
 use Rattle.writer.specs.Card.{standardCard}
 
 chosen : (many short : Bool) (length room : ℕ) (d e : List ℕ) → short ≡ ltb room length
-    → (if many then leaves (refused TooManyBytes 0) d else if short then leaves (refused ShortDestination 0) d else leaves (accepted length) e)
+    → (if many then leaves (refused TooManyBytes 0) d
+    else if short then leaves (refused ShortDestination 0) d else leaves (accepted length) e)
     .answer .count ≤ room
 chosen true short l room d e t = omega arith
 chosen false true l room d e t = omega arith

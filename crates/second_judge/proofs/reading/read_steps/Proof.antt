@@ -103,7 +103,8 @@ after-requires-2 : tie.Need-after-requires-2 Inv-loop μ-loop
 after-requires-2 c κs =
     let tested = tested-of (c .before .before .before .before .before) in
     let inv = tested .before .loop .inv in
-    let early : tested .before .loop .tick ≤ 2000000000 = omega (arith, inv, tested .loop-test .taken, start-of (tested .before) .pre .few) in
+    let early : tested .before .loop .tick ≤ 2000000000 =
+    omega (arith, inv, tested .loop-test .taken, start-of (tested .before) .pre .few) in
     let next = c .before .before .before .before .before .before .before .before .next in
     ((inv .5, inv .6, early, inv .8), next .ensures .known)
 
