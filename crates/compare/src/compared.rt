@@ -4,24 +4,21 @@ use crate::case::Case;
 use crate::output;
 use second_judge::Finding;
 
-// What is counted: the recordings with each number as the answer, all of them, and the differences.
+// What is counted: the recordings with each number as the answer, and the differences.
 pub(crate) struct Tally {
     pub numbers: [u32; 64],
-    pub recordings: u32,
     pub differences: u32,
 }
 
 impl Tally {
     pub(crate) const NONE: Tally = Tally {
         numbers: [0; 64],
-        recordings: 0,
         differences: 0,
     };
 
     fn count(mut self, number: u32) -> Tally {
         let place = (number % 64) as usize;
         self.numbers[place] = std::num::wrapping_add_u32(self.numbers[place], 1);
-        self.recordings = std::num::wrapping_add_u32(self.recordings, 1);
         self
     }
 

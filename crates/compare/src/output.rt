@@ -106,11 +106,10 @@ const VERDICTS: [u8; 18] = [
     37,
 ];
 
-// How many recordings had each number, and the sums.
+// How many recordings had each number, how many numbers none had, and the differences.
 pub(crate) fn print_tally(tally: Tally) {
     let refusals = print_numbers(tally, &REFUSALS);
     let verdicts = print_numbers(tally, &VERDICTS);
-    print_line(b"recordings", &[tally.recordings]);
     print_line(
         b"missing",
         &[std::num::wrapping_add_u32(refusals, verdicts)],

@@ -37,7 +37,7 @@ pub(crate) fn put_base(file: &mut [u8], place: u32) -> u32 {
     if place < BASE_STEPS {
         draft::add(file, 100, draft::CLK);
         Transfer::BASE.put(file);
-        draft::add(file, 50, draft::RELEASED);
+        draft::add(file, 50, 0);
         return place;
     }
     writer::write(&[], file);
@@ -47,7 +47,7 @@ pub(crate) fn put_base(file: &mut [u8], place: u32) -> u32 {
 // After the last step comes the first.
 fn step_after(file: &[u8], step: u32) -> u32 {
     let next = std::num::wrapping_add_u32(step, 1);
-    if next < draft::word_at(file, 0) / 65_536 {
+    if next < draft::word_at(file, 0) / draft::UPPER {
         return next;
     }
     0

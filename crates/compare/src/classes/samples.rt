@@ -4,7 +4,6 @@ use crate::case::Case;
 use crate::case::Required;
 use crate::made::draft;
 use crate::made::manner::Manner;
-use crate::made::transfer::Sent;
 use crate::made::transfer::Transfer;
 
 // What a sample is before a step of it is changed: no steps; 256 ticks (1,0); written from no bytes; S1, written from
@@ -68,6 +67,9 @@ pub(crate) fn put(number: u32, file: &mut [u8]) -> Case {
 }
 
 fn put_begun(file: &mut [u8], begun: u32) {
+    if begun == NO_STEPS {
+        return;
+    }
     if begun == WAITING {
         return draft::add(file, 256, draft::CLK);
     }
@@ -79,35 +81,34 @@ fn put_begun(file: &mut [u8], begun: u32) {
         writer::write(&[0x41], file);
         return;
     }
-    if begun == S1_SRQ {
-        return put_byte(file, 0x41, 0, 30, draft::SRQ);
-    }
-    if begun == CARRIED {
-        put_byte(file, 0x80, 1, 1, 0);
-    }
+    put_byte(file, begun);
 }
 
-// One byte alone, let go and taken so many ticks after bit 8, and in each step `more` line bits.
-fn put_byte(file: &mut [u8], value: u8, let_go: u32, take: u32, more: u8) {
-    let manner = Manner { state: 0, more };
-    let sent = Sent {
-        value,
-        let_go,
-        take,
-        hold: 200,
+// The first byte of the base alone, with SRQ set everywhere, or the third.
+fn put_byte(file: &mut [u8], begun: u32) {
+    if begun == CARRIED {
+        Transfer {
+            count: 1,
+            first: 2,
+            ..Transfer::BASE
+        }.put(file);
+        return;
+    }
+    let manner = Manner {
+        state: 0,
+        more: draft::SRQ,
     };
-    let transfer = Transfer {
+    Transfer {
         manner,
         count: 1,
-        target: 0,
-        sent,
-    };
-    transfer.put(file);
+        ..Transfer::BASE
+    }.put(file);
 }
 
 fn put_step(file: &mut [u8], step: u32, duration: u32, lines: u8) {
     if step == NEW {
         return draft::add(file, duration, lines);
     }
-    draft::change(file, step, duration, lines);
+    draft::set_duration(file, step, duration);
+    draft::set_lines(file, step, lines);
 }

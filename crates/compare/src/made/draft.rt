@@ -1,28 +1,23 @@
 // A recording that is being put down, step after step: its own header is right for the steps so far. It is read and
 // changed by words of four bytes; a word beyond its end reads as 0, and nothing is put there.
 
-// Line bits of a step; (0,0) and (1,1).
+// Line bits of a step, and (1,1).
 pub(crate) const CLK: u8 = 2;
 
 pub(crate) const DATA: u8 = 4;
 
 pub(crate) const SRQ: u8 = 8;
 
-pub(crate) const RELEASED: u8 = 0;
-
 pub(crate) const BOTH: u8 = 6;
 
-// The header's words: the version with the step count above it, the first step's place, the total and the length.
-pub(crate) const COUNT_AT: usize = 0;
-
-pub(crate) const OFFSET_AT: usize = 4;
-
+// Of the header's words the third and the fourth: the total and the length. The first is the version with the step count
+// above it, and the second the first step's place.
 pub(crate) const TOTAL_AT: usize = 8;
 
 pub(crate) const LENGTH_AT: usize = 12;
 
-// One step is so much in the word with the step count, and one line bit so much in a step's word.
-const UPPER: u32 = 65_536;
+// The upper half of a word: the step count, and a step's lines.
+pub(crate) const UPPER: u32 = 65_536;
 
 pub(crate) fn word_at(file: &[u8], at: usize) -> u32 {
     if file.len() < 4 {
@@ -58,8 +53,8 @@ fn raise(file: &mut [u8], at: usize, by: u32) {
 
 // Version 1 with no steps.
 pub(crate) fn begin(file: &mut [u8]) {
-    put_word(file, COUNT_AT, 1);
-    put_word(file, OFFSET_AT, 16);
+    put_word(file, 0, 1);
+    put_word(file, 4, 16);
     put_word(file, TOTAL_AT, 0);
     put_word(file, LENGTH_AT, 16);
 }
@@ -73,39 +68,23 @@ pub(crate) fn add(file: &mut [u8], duration: u32, lines: u8) {
     if file.len() <= length {
         return;
     }
-    put_word(file, length, step_word(duration, lines));
-    raise(file, COUNT_AT, UPPER);
+    put_word(file, length, duration % UPPER + (lines as u32) * UPPER);
+    raise(file, 0, UPPER);
     raise(file, TOTAL_AT, duration);
     raise(file, LENGTH_AT, 4);
 }
 
-fn step_word(duration: u32, lines: u8) -> u32 {
-    duration % UPPER + (lines as u32) * UPPER
-}
-
-// Changes a step, and the total with it.
-pub(crate) fn change(file: &mut [u8], step: u32, duration: u32, lines: u8) {
-    let before = duration_at(file, step);
-    put_word(file, step_place(step), step_word(duration, lines));
-    raise(file, TOTAL_AT, std::num::wrapping_sub_u32(duration, before));
-}
-
-fn step_place(step: u32) -> usize {
-    16 + 4 * (step as usize)
-}
-
-fn duration_at(file: &[u8], step: u32) -> u32 {
-    word_at(file, step_place(step)) % UPPER
-}
-
+// Changes a step's duration, and the total with it.
 pub(crate) fn set_duration(file: &mut [u8], step: u32, duration: u32) {
-    let lines = word_at(file, step_place(step)) / UPPER;
-    change(file, step, duration, (lines % 256) as u8);
+    let place = 16 + 4 * (step as usize);
+    let before = word_at(file, place) % UPPER;
+    let more = std::num::wrapping_sub_u32(duration, before);
+    raise(file, place, more);
+    raise(file, TOTAL_AT, more);
 }
 
 pub(crate) fn set_lines(file: &mut [u8], step: u32, lines: u8) {
-    let duration = duration_at(file, step);
-    change(file, step, duration, lines);
+    put_byte(file, 18 + 4 * (step as usize), lines as u32);
 }
 
 // The first bytes of a file.

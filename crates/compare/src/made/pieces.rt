@@ -33,15 +33,15 @@ const STRETCHES: [Stretch; 10] = [
     Stretch(200, 1, 400, draft::BOTH),
     // The sender is ready to send, and both let go.
     Stretch(50, 1, 400, draft::DATA),
-    Stretch(60, 1, 199, draft::RELEASED),
+    Stretch(60, 1, 199, 0),
     // The same before the last byte, with the acknowledgement.
     Stretch(50, 1, 400, draft::DATA),
-    Stretch(220, 200, 290, draft::RELEASED),
+    Stretch(220, 200, 290, 0),
     Stretch(80, 60, 150, draft::DATA),
-    Stretch(40, 1, 60, draft::RELEASED),
+    Stretch(40, 1, 60, 0),
     // The last letting go, and nobody pulls anything from it on.
     Stretch(50, 1, 400, draft::DATA),
-    Stretch(100, 1, 400, draft::RELEASED),
+    Stretch(100, 1, 400, 0),
 ];
 
 pub(crate) fn put_stretches(file: &mut [u8], manner: Manner, from: u32, to: u32) -> Manner {

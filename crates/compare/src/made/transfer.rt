@@ -45,7 +45,7 @@ impl Sent {
 
 // The bytes where nothing is drawn, and their letting go and take: bit 8 zero, and each way to hand over a one: let go at
 // once, carried up to CLK's release, carried and then open.
-const VALUES: [u8; 4] = [0x41, 0xC1, 0x81, 0xF0];
+const VALUES: [u8; 4] = [0x41, 0xC1, 0x80, 0xF0];
 
 const LETTING_GO: [u32; 4] = [0, 0, 1, 40];
 
@@ -53,7 +53,9 @@ const TAKES: [u32; 4] = [30, 30, 1, 70];
 
 pub(crate) struct Transfer {
     pub manner: Manner,
+    // How many bytes there are, and which of those above is the first.
     pub count: u32,
+    pub first: u32,
     // The byte `target`, if there is one, is this.
     pub target: u32,
     pub sent: Sent,
@@ -69,6 +71,7 @@ impl Transfer {
     pub(crate) const BASE: Transfer = Transfer {
         manner: Manner::PLAIN,
         count: 4,
+        first: 0,
         target: 4,
         sent: Sent {
             value: 0,
@@ -85,7 +88,7 @@ impl Transfer {
         if manner.state != 0 {
             return Sent::drawn(manner);
         }
-        let place = (index % 4) as usize;
+        let place = (std::num::wrapping_add_u32(self.first, index) % 4) as usize;
         Sent {
             value: VALUES[place],
             let_go: LETTING_GO[place],
