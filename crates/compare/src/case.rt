@@ -3,6 +3,11 @@ use crate::made::draft;
 use crate::made::transfer::Sent;
 use answer::Answer;
 
+// How long the two buffers are, more than is asked for.
+pub(crate) const BYTES: usize = 1200;
+
+pub(crate) const LEDGER: usize = 2400;
+
 pub(crate) struct Case {
     // The class's name, and how many cases it has.
     pub class: [u8; 10],
@@ -22,13 +27,13 @@ impl Case {
         class: *b"none      ",
         cases: 0,
         length: 0,
-        bytes: 1200,
-        ledger: 2400,
+        bytes: BYTES,
+        ledger: LEDGER,
         title: *b"                        ",
         required: Required::NOTHING,
     };
 
-    // The recording as long as its header says, with more room than is asked for.
+    // The recording as long as its header says, with all places lent.
     pub(crate) fn of_file(class: [u8; 10], cases: u32, file: &[u8]) -> Case {
         Case {
             class,
@@ -70,14 +75,19 @@ impl Required {
         self
     }
 
-    pub(crate) fn is_met(self, answer: Answer, bytes: &[u8; 1200], ledger: &[u32; 2400]) -> bool {
+    pub(crate) fn is_met(
+        self,
+        answer: Answer,
+        bytes: &[u8; BYTES],
+        ledger: &[u32; LEDGER],
+    ) -> bool {
         ((self.number == ANY) | (self.number == answer.number as u32))
             & ((self.tick == ANY) | (self.tick == answer.tick))
             & ((self.count == 0) | (self.count == answer.count))
             & self.is_handed_over(bytes, ledger)
     }
 
-    fn is_handed_over(self, bytes: &[u8; 1200], ledger: &[u32; 2400]) -> bool {
+    fn is_handed_over(self, bytes: &[u8; BYTES], ledger: &[u32; LEDGER]) -> bool {
         let mut index: u32 = 0;
         while index < self.count {
             let place = (index % 12) as usize;

@@ -1,6 +1,8 @@
 // One recording before both judges: this is the only place where they are called.
 ghost use Prim.Native.Nat.{_≤_};
+use crate::case::BYTES;
 use crate::case::Case;
+use crate::case::LEDGER;
 use crate::output;
 use second_judge::Finding;
 
@@ -54,11 +56,7 @@ impl Outcome {
     }
 }
 
-// How long the buffers are. Their places hold the same beforehand, and no tick of a recording here.
-const BYTES: usize = 1200;
-
-const LEDGER: usize = 2400;
-
+// The places of the buffers hold the same beforehand, and no tick of a recording here.
 fn judge_by_both(file: &[u8], case: Case) -> Outcome {
     let mut bytes = [0xEEu8; BYTES];
     let mut ledger = [0xEEEE_EEEEu32; LEDGER];

@@ -66,8 +66,11 @@ pub(crate) fn print_difference(file: &[u8], number: u32, case: Case, outcome: Ou
     print_line(&class, &[number]);
     print_finding(b"  first judge", outcome.first);
     print_finding(b"  second judge", outcome.second);
-    print_line(b"  buffers alike below", &[(outcome.place % 65_536) as u32]);
-    print_line(b"  required", &[it.number, it.tick, it.count]);
+    let place = (outcome.place % 65_536) as u32;
+    print_line(
+        b"  buffers alike below, required number, tick and count",
+        &[place, it.number, it.tick, it.count],
+    );
     print_words(draft::part(file, MOST_SHOWN));
 }
 

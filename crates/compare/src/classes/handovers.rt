@@ -9,7 +9,7 @@ const OFFSETS: u32 = 110;
 
 const BYTES: u32 = 4;
 
-// The byte, and its letting go, take and hold: each a number, and whether the offset is added to it.
+// The byte; whether it is let go at the offset; its take and its hold, each a number and whether the offset is added.
 struct Kind(u8, u32, u32, u32, u32, u32);
 
 const IT: u32 = 0xFFFF_FFFF;
@@ -30,15 +30,18 @@ const ALL: [Kind; 9] = [
     Kind(0xC1, IT, 1001, 0, 200, 0),
 ];
 
-pub(crate) fn put(number: u32, file: &mut [u8]) -> Case {
-    let kind = ALL[(number / BYTES / OFFSETS % KINDS) as usize];
-    let offset = number / BYTES % OFFSETS;
-    let sent = Sent {
+fn sent_at(number: u32, offset: u32) -> Sent {
+    let kind = ALL[(number / OFFSETS % KINDS) as usize];
+    Sent {
         value: kind.0,
         let_go: offset & kind.1,
         take: std::num::wrapping_add_u32(kind.2, offset & kind.3),
         hold: std::num::wrapping_add_u32(kind.4, offset & kind.5),
-    };
+    }
+}
+
+pub(crate) fn put(number: u32, file: &mut [u8]) -> Case {
+    let sent = sent_at(number / BYTES, number / BYTES % OFFSETS);
     let transfer = Transfer {
         target: number % BYTES,
         sent,

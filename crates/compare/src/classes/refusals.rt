@@ -55,25 +55,19 @@ const ALL: [Change; 32] = [
 ];
 
 // 9: how many places of both buffers are lent.
-struct Room(usize, usize);
+const BYTES: [usize; 5] = [1200, 1000, 999, 1200, 0];
 
-const LENT: [Room; 5] = [
-    Room(1200, 2400),
-    Room(1000, 2000),
-    Room(999, 2400),
-    Room(1200, 1999),
-    Room(0, 0),
-];
+const LEDGER: [usize; 5] = [2400, 2000, 2400, 1999, 0];
 
 pub(crate) fn put(number: u32, file: &mut [u8]) -> Case {
     let change = ALL[(number / ROOMS % CHANGES) as usize];
-    let room = LENT[(number % ROOMS) as usize];
+    let room = (number % ROOMS) as usize;
     writer::write(&[0x41], file);
     draft::put_word(file, change.0, change.1);
     Case {
         length: change.2,
-        bytes: room.0,
-        ledger: room.1,
+        bytes: BYTES[room],
+        ledger: LEDGER[room],
         ..Case::of_file(*b"refusals  ", CHANGES * ROOMS, file)
     }
 }
