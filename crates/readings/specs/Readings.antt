@@ -50,6 +50,9 @@ readings =
     ∷ reads (till41 ++ (1 ∶ 6 ∷ [])) 26 1630 0
     -- Carried: DATA released with CLK is 26 and not 36.
     ∷ reads (till80 ++ (50 ∶ 6 ∷ 1 ∶ 0 ∷ [])) 26 1680 0
+    -- Carried: CLK released at offset 100 is too soon, at 101 it hands the byte over.
+    ∷ reads (till80 ++ (100 ∶ 6 ∷ 1 ∶ 4 ∷ [])) 36 1730 0
+    ∷ reads (till80 ++ (101 ∶ 6 ∷ 1 ∶ 4 ∷ [])) 22 1732 1
     -- Carried has no upper end: 35 never falls there.
     ∷ reads (till80 ++ (1500 ∶ 6 ∷ 50 ∶ 4 ∷ 100 ∶ 0 ∷ [])) 20 3180 1
     -- Carried, then open: 35 still counts from offset 0.
