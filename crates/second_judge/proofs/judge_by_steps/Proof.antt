@@ -22,10 +22,6 @@ returns c =
 pub judge-by-steps-spec : {M : Type 1} → statement M
 judge-by-steps-spec =
     tie.close
-    (tie.spec
-    (λ c κs. search needs)
-    returns
-    (λ c κs. c .before .before .before .before .test .ensures .1 (c .before .before .if1 .left))
-    (λ c. search needs)
-    (λ c. search needs)
-    (λ c. inr (c .before .before .before .before .read-steps .ensures)))
+    (tie.spec (λ c κs. search needs) returns
+    (λ c κs. c .before .before .before .before .test .ensures .1 (c .before .before .if1 .left)) (λ c. search needs)
+    (λ c. search needs) (λ c. inr (c .before .before .before .before .read-steps .ensures)))

@@ -29,27 +29,15 @@ from-the-end c =
 pub next-spec : {M : Type 1} → statement M
 next-spec =
     tie.close
-    (tie.spec
-    (λ c. search needs)
-    (λ c κs. search needs)
-    (λ c κs. search needs)
-    (λ c κs. search needs)
-    (λ c κs. search needs)
-    (λ c κs. search needs)
-    (λ c κs. search needs)
-    (λ c κs. search needs)
-    (λ c κs. search needs)
-    (λ c κs. search needs)
-    (λ c κs. search needs)
-    (λ c κs. search needs)
+    (tie.spec (λ c. search needs) (λ c κs. search needs) (λ c κs. search needs) (λ c κs. search needs)
+    (λ c κs. search needs) (λ c κs. search needs) (λ c κs. search needs) (λ c κs. search needs) (λ c κs. search needs)
+    (λ c κs. search needs) (λ c κs. search needs) (λ c κs. search needs)
     (λ c. elsewhere (c .start .ensures) (λ at-end. omega (arith, at-end, c .before .match)))
-    (λ c. elsewhere (c .hold .ensures) (λ at-end. omega (arith, at-end, c .before .match)))
-    from-ready-to-send
+    (λ c. elsewhere (c .hold .ensures) (λ at-end. omega (arith, at-end, c .before .match))) from-ready-to-send
     (λ c. elsewhere (c .ready-for-data .ensures) (λ at-end. omega (arith, at-end, c .before .match)))
     (λ c. elsewhere (c .acknowledgement .ensures) (λ at-end. omega (arith, at-end, c .before .match)))
     (λ c. elsewhere (c .acknowledged .ensures) (λ at-end. omega (arith, at-end, c .before .match)))
     (λ c. elsewhere (c .set-up .ensures) (λ at-end. omega (arith, at-end, c .before .match)))
     (λ c. elsewhere (c .valid .ensures) (λ at-end. omega (arith, at-end, c .before .match)))
     (λ c. elsewhere (c .carried .ensures) (λ at-end. omega (arith, at-end, c .before .match)))
-    (λ c. elsewhere (c .«open» .ensures) (λ at-end. omega (arith, at-end, c .before .match)))
-    from-the-end)
+    (λ c. elsewhere (c .«open» .ensures) (λ at-end. omega (arith, at-end, c .before .match))) from-the-end)

@@ -11,19 +11,7 @@ use Rattle.second_judge.proofs.patience.verdict_of.Tie as tie
 pub verdict-of-spec : {M : Type 1} → statement M
 verdict-of-spec =
     tie.close
-    (tie.spec
-    (λ c. search needs)
-    (λ c. search needs)
-    (λ c. search needs)
-    (λ c. search needs)
-    (λ c. search needs)
-    (λ c. search needs)
-    (λ c. search needs)
-    (λ c. search needs)
-    (λ c. search needs)
-    (λ c. search needs)
-    (λ c. search needs)
-    (λ c. search needs)
-    (λ c.
-    further undecided while-reading (c .before .args .phase)
-    (unmatched Unit (end ∷ other-phases) while-reading _ (c .match .rest) (c .before .pre))))
+    (tie.spec (λ c. search needs) (λ c. search needs) (λ c. search needs) (λ c. search needs) (λ c. search needs)
+    (λ c. search needs) (λ c. search needs) (λ c. search needs) (λ c. search needs) (λ c. search needs)
+    (λ c. search needs) (λ c. search needs)
+    (λ c. further undecided while-reading (c .before .args .phase) (unmatched Unit (end ∷ other-phases) while-reading _ (c .match .rest) (c .before .pre))))

@@ -202,27 +202,7 @@ returns-2 c =
 pub read-steps-spec : {M : Type 1} → statement M
 read-steps-spec =
     tie.close
-    (tie.spec
-    Inv-loop
-    μ-loop
-    (λ c κs. search needs)
-    (λ c κs. search needs)
-    loop-holds
-    (λ c κs. search needs)
-    (λ c. search needs)
-    (λ c. search needs)
-    (λ c κs. search needs)
-    (λ c κs. search needs)
-    (λ c κs. search needs)
-    after-requires-2
-    (λ c κs. search needs)
-    same-length
-    same-length-2
-    returns
-    add-step
-    loop-less
-    loop-again
-    ran-out-requires
-    (λ c. search needs)
-    (λ c. search needs)
-    returns-2)
+    (tie.spec Inv-loop μ-loop (λ c κs. search needs) (λ c κs. search needs) loop-holds (λ c κs. search needs)
+    (λ c. search needs) (λ c. search needs) (λ c κs. search needs) (λ c κs. search needs) (λ c κs. search needs)
+    after-requires-2 (λ c κs. search needs) same-length same-length-2 returns add-step loop-less loop-again
+    ran-out-requires (λ c. search needs) (λ c. search needs) returns-2)

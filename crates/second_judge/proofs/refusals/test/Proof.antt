@@ -13,16 +13,8 @@ test-steps-requires c κs =
 pub test-spec : {M : Type 1} → statement M
 test-spec =
     tie.close
-    (tie.spec
-    (λ c κs. search needs)
-    (λ c. (c .refused .ensures .1, λ e. absurd (omega (arith, e, c .refused .ensures .0))))
-    (λ c κs. search needs)
-    (λ c κs. search needs)
-    (λ c κs. search needs)
-    (λ c κs. search needs)
-    (λ c κs. search needs)
-    (λ c κs. search needs)
-    (λ c. (c .refused2 .ensures .1, λ e. absurd (omega (arith, e, c .refused2 .ensures .0))))
-    (λ c κs. search needs)
-    test-steps-requires
-    (λ c. c .test-steps .ensures))
+    (tie.spec (λ c κs. search needs)
+    (λ c. (c .refused .ensures .1, λ e. absurd (omega (arith, e, c .refused .ensures .0)))) (λ c κs. search needs)
+    (λ c κs. search needs) (λ c κs. search needs) (λ c κs. search needs) (λ c κs. search needs) (λ c κs. search needs)
+    (λ c. (c .refused2 .ensures .1, λ e. absurd (omega (arith, e, c .refused2 .ensures .0)))) (λ c κs. search needs)
+    test-steps-requires (λ c. c .test-steps .ensures))

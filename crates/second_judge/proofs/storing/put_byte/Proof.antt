@@ -8,9 +8,5 @@ use Rattle.second_judge.proofs.storing.put_byte.Tie as tie
 pub put-byte-spec : {M : Type 1} → statement M
 put-byte-spec =
     tie.close
-    (tie.spec
-    (λ c. search needs)
-    (λ c. search needs)
-    (λ c. search needs)
-    (λ c. kept-set _ _ _ _ (omega arith))
+    (tie.spec (λ c. search needs) (λ c. search needs) (λ c. search needs) (λ c. kept-set _ _ _ _ (omega arith))
     (λ c. search needs))

@@ -9,14 +9,6 @@ use Rattle.second_judge.proofs.storing.put_ticks.Tie as tie
 pub put-ticks-spec : {M : Type 1} → statement M
 put-ticks-spec =
     tie.close
-    (tie.spec
-    (λ c. search needs)
-    (λ c. search needs)
-    (λ c. search needs)
-    (λ c. search needs)
-    (λ c. search needs)
-    (λ c. search needs)
-    (λ c. search needs)
-    (λ c. search needs)
-    (λ c. kept-both (kept-set _ _ _ _ (omega arith)) (kept-set _ _ _ _ (omega arith)))
-    (λ c. search needs))
+    (tie.spec (λ c. search needs) (λ c. search needs) (λ c. search needs) (λ c. search needs) (λ c. search needs)
+    (λ c. search needs) (λ c. search needs) (λ c. search needs)
+    (λ c. kept-both (kept-set _ _ _ _ (omega arith)) (kept-set _ _ _ _ (omega arith))) (λ c. search needs))
