@@ -11,4 +11,7 @@ pub step-at-spec : {M : Type 1} → statement M
 step-at-spec =
     tie.close
     (tie.spec (λ c κs. search needs) (λ c. search needs) (λ c κs. search needs)
-    (λ c. let bytes = two-bytes (now (c .before .before .before .args .file)) in let at = c .before .length-for .ensures in (c .four-bytes .ensures .1 .0 ∙ ap bytes at, c .four-bytes .ensures .1 .1 ∙ ap (λ (n : ℕ). bytes (n + 2)) at)))
+    (λ c.
+    let bytes = two-bytes (now (c .before .before .before .args .file)) in
+    let at = c .before .length-for .ensures in
+    (c .four-bytes .ensures .1 .0 ∙ ap bytes at, c .four-bytes .ensures .1 .1 ∙ ap (λ (n : ℕ). bytes (n + 2)) at)))

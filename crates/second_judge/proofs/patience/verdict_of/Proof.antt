@@ -14,4 +14,6 @@ verdict-of-spec =
     (tie.spec (λ c. search needs) (λ c. search needs) (λ c. search needs) (λ c. search needs) (λ c. search needs)
     (λ c. search needs) (λ c. search needs) (λ c. search needs) (λ c. search needs) (λ c. search needs)
     (λ c. search needs) (λ c. search needs)
-    (λ c. further undecided while-reading (c .before .args .phase) (unmatched Unit (end ∷ other-phases) while-reading _ (c .match .rest) (c .before .pre))))
+    (λ c.
+    further undecided while-reading (c .before .args .phase)
+    (unmatched Unit (end ∷ other-phases) while-reading _ (c .match .rest) (c .before .pre))))
