@@ -1,14 +1,12 @@
 -- A table's rows are the words of their numbers; a row read up to its first space. Assumes nothing.
-use Prim.Native.Nat.{ℕ, zero, suc, _+_, _-_, _*_, _<_, _≤_}
-use native.Mathlib.Omega.{arith}
-use native.Mathlib.Numerals.{add-one}
+use Rattle.answer.specs.Basics.{ℕ, zero, suc, _+_, _-_, _*_, _≤_, _<_, List, [], _∷_, _++_, length, take, drop, set, getD, _≡_}
+use native.Mathlib.{Omega.arith, Numerals.add-one}
 use borrow.Author.Tests.{eq-eqb, ne-eqb}
-use mathlib.Core.List.{List, [], _∷_, _++_, append-assoc, append-nil}
-use mathlib.Core.Path.{_≡_, refl, ap, sym, subst, _∙_}
-use lib.ListN.{length, getD, take, drop, set, length-set}
-use lib.Seq.{drop-cons, take-suc-set}
-use Rattle.answer.specs.Names.{Word, _is_, words, wordAmong, wordOf, wordIn, wordAt, Spells}
+use mathlib.Core.List.{append-assoc, append-nil}
+use mathlib.Core.Path.{refl, ap, sym, subst, _∙_}
+use lib.{ListN.length-set, Seq.drop-cons, Seq.take-suc-set}
 use Rattle.answer.specs.Text.{ascii, space}
+use Rattle.answer.specs.Names.{Word, _is_, words, wordAmong, wordOf, wordIn, wordAt, Spells}
 use Rattle.answer.specs.declared.names.Name.{Name}
 
 -- What a function gives for so many numbers from one on.

@@ -1,24 +1,13 @@
 -- What a number tells: complete, cut, another verdict or a refusal. Assumes nothing.
-use Prim.Native.Nat.{ℕ}
+use Rattle.answer.specs.Basics.{ℕ, Bool, false, _||_, List, [], _∷_, _≡_, eqb, if_then_else_}
 use native.Mathlib.Omega.{arith}
-use mathlib.Core.Bool.{Bool, false, _||_}
-use mathlib.Core.List.{List, [], _∷_}
-use mathlib.Core.Path.{_≡_, refl, sym, ap, _∙_}
-use lib.Dec.{eqb}
-use Rattle.answer.specs.Choice.{if_then_else_}
+use mathlib.Core.Path.{refl, sym, ap, _∙_}
 use Rattle.answer.specs.Numbers.{refusalNumber, verdictNumber, OnlyCompleteIs20, OnlyCutIs22, VerdictsAreNoRefusals}
-use Rattle.answer.specs.declared.refusal.Refusal.{Refusal}
-use Rattle.answer.specs.declared.refusal.Refusal.the-variants.{ShortFile, WrongVersion, TooManySteps, WrongOffset}
-use Rattle.answer.specs.declared.refusal.Refusal.the-variants.{WrongLength, ZeroDuration, StrayBits, WrongTotal}
-use Rattle.answer.specs.declared.refusal.Refusal.the-variants.{ShortBuffers, TooManyBytes, ShortDestination}
-use Rattle.answer.specs.declared.verdict.Fault.{Fault}
-use Rattle.answer.specs.declared.verdict.Fault.the-variants.{EmptyStream, Attention, NoReceiver, BadStart, OutOfTurn}
-use Rattle.answer.specs.declared.verdict.Fault.the-variants.{EndMarkNotAcknowledged, AcknowledgementShort}
-use Rattle.answer.specs.declared.verdict.Fault.the-variants.{AcknowledgementLong, LateClock, SenderTimeout}
-use Rattle.answer.specs.declared.verdict.Fault.the-variants.{ValidTimeShort, DataMoved, ClockStall, ReceiverTimeout}
-use Rattle.answer.specs.declared.verdict.Fault.the-variants.{Hurried, MovedAfterEnd}
-use Rattle.answer.specs.declared.verdict.Verdict.{Verdict}
-use Rattle.answer.specs.declared.verdict.Verdict.the-variants.{Complete, Cut, Broken}
+use Rattle.answer.specs.Types.{Refusal, ShortFile, WrongVersion, TooManySteps, WrongOffset, WrongLength, ZeroDuration, StrayBits}
+use Rattle.answer.specs.Types.{WrongTotal, ShortBuffers, TooManyBytes, ShortDestination, Fault, EmptyStream, Attention, NoReceiver}
+use Rattle.answer.specs.Types.{BadStart, OutOfTurn, EndMarkNotAcknowledged, AcknowledgementShort, AcknowledgementLong, LateClock}
+use Rattle.answer.specs.Types.{SenderTimeout, ValidTimeShort, DataMoved, ClockStall, ReceiverTimeout, Hurried, MovedAfterEnd, Verdict}
+use Rattle.answer.specs.Types.{Complete, Cut, Broken}
 
 -- Four kinds of numbers, told by a test that computes: a new number is one line of a list below.
 abbrev refusals : List Refusal

@@ -1,8 +1,6 @@
 -- The answers that carry no verdict.
-use Prim.Native.Nat.{ℕ}
-use Rattle.answer.specs.Numbers.{refusalNumber}
-use Rattle.answer.specs.declared.Answer.{Answer}
-use Rattle.answer.specs.declared.refusal.Refusal.{Refusal}
+use Rattle.answer.specs.Basics.{ℕ}
+use Rattle.answer.specs.{Types.Answer, Types.Refusal, Numbers.refusalNumber}
 
 -- "Every refusal has tick 0 and count 0, its step is the offending one for 6 and 7 and otherwise 0."
 abbrev pub refused : Refusal → (step : ℕ) → Answer

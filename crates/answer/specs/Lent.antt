@@ -1,7 +1,5 @@
 -- What an entry leaves in lent memory.
-use Prim.Native.Nat.{ℕ}
-use mathlib.Core.List.{List, _++_}
-use lib.ListN.{length, take, drop}
+use Rattle.answer.specs.Basics.{ℕ, List, _++_, length, take, drop}
 
 -- Lent places that begin with these values: "all further places keep what they held". There are always places enough: by the room law
 -- for the judge, by refusal 11 for the writer; of a dump only so much is put down as there are places.

@@ -1,5 +1,6 @@
 -- What every entry answers and leaves in lent memory.
-pub mod Choice
+pub mod Basics
+pub mod Types
 pub mod Text
 pub mod Numbers
 pub mod Answers

@@ -1,13 +1,7 @@
 -- The word that the programs print for each of the numbers in Numbers.
-use Prim.Native.Nat.{ℕ, zero, suc, _≤_}
+use Rattle.answer.specs.Basics.{ℕ, zero, suc, _≤_, List, [], _∷_, length, drop, _≡_, eqb, if_then_else_}
 use Prim.Native.String.{String}
-use mathlib.Core.List.{List, [], _∷_}
-use mathlib.Core.Path.{_≡_}
-use lib.Dec.{eqb}
-use lib.ListN.{length, drop}
-use Rattle.answer.specs.Choice.{if_then_else_}
-use Rattle.answer.specs.Lent.{first}
-use Rattle.answer.specs.Text.{ascii, space}
+use Rattle.answer.specs.{Lent.first, Text.ascii, Text.space}
 use Rattle.answer.specs.declared.names.Name.{Name}
 
 infix 70 _is_

@@ -1,18 +1,10 @@
 -- Document 01's numbers, "Numbers and what they leave": the one place where they stand.
-use Prim.Native.Nat.{ℕ}
-use mathlib.Core.Path.{_≡_}
-use Rattle.answer.specs.declared.refusal.Refusal.{Refusal}
-use Rattle.answer.specs.declared.refusal.Refusal.the-variants.{ShortFile, WrongVersion, TooManySteps, WrongOffset}
-use Rattle.answer.specs.declared.refusal.Refusal.the-variants.{WrongLength, ZeroDuration, StrayBits, WrongTotal}
-use Rattle.answer.specs.declared.refusal.Refusal.the-variants.{ShortBuffers, TooManyBytes, ShortDestination}
-use Rattle.answer.specs.declared.verdict.Fault.{Fault}
-use Rattle.answer.specs.declared.verdict.Fault.the-variants.{EmptyStream, Attention, NoReceiver, BadStart, OutOfTurn}
-use Rattle.answer.specs.declared.verdict.Fault.the-variants.{EndMarkNotAcknowledged, AcknowledgementShort}
-use Rattle.answer.specs.declared.verdict.Fault.the-variants.{AcknowledgementLong, LateClock, SenderTimeout}
-use Rattle.answer.specs.declared.verdict.Fault.the-variants.{ValidTimeShort, DataMoved, ClockStall, ReceiverTimeout}
-use Rattle.answer.specs.declared.verdict.Fault.the-variants.{Hurried, MovedAfterEnd}
-use Rattle.answer.specs.declared.verdict.Verdict.{Verdict}
-use Rattle.answer.specs.declared.verdict.Verdict.the-variants.{Complete, Cut, Broken}
+use Rattle.answer.specs.Basics.{ℕ, _≡_}
+use Rattle.answer.specs.Types.{Refusal, ShortFile, WrongVersion, TooManySteps, WrongOffset, WrongLength, ZeroDuration, StrayBits}
+use Rattle.answer.specs.Types.{WrongTotal, ShortBuffers, TooManyBytes, ShortDestination, EmptyStream, Attention, NoReceiver}
+use Rattle.answer.specs.Types.{BadStart, OutOfTurn, EndMarkNotAcknowledged, AcknowledgementShort, AcknowledgementLong, LateClock}
+use Rattle.answer.specs.Types.{SenderTimeout, ValidTimeShort, DataMoved, ClockStall, ReceiverTimeout, Hurried, MovedAfterEnd, Verdict}
+use Rattle.answer.specs.Types.{Complete, Cut, Broken}
 
 -- "Refusals"; the definitions that give them say when.
 abbrev pub refusalNumber : Refusal → ℕ

@@ -1,8 +1,7 @@
 -- Text as bytes.
 use Prim.Native.Char.{code}
-use Prim.Native.Nat.{ℕ}
+use Rattle.answer.specs.Basics.{ℕ, List, [], _∷_}
 use Prim.Native.String.{String, [] as end, _∷_ as _then_}
-use mathlib.Core.List.{List, [], _∷_}
 
 -- The bytes of a text; its characters are those of ASCII, one byte each.
 abbrev pub ascii : String → List ℕ

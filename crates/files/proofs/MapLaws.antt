@@ -1,10 +1,8 @@
 -- A list that is mapped in place, one place after another. Assumes nothing.
-use Prim.Native.Nat.{ℕ, zero, suc, _+_, _<_, _≤_}
-use native.Mathlib.Omega.{arith}
-use native.Mathlib.Numerals.{add-one}
-use mathlib.Core.Path.{_≡_, refl, ap, sym, _∙_}
-use mathlib.Core.List.{List, [], _∷_, _++_, map}
-use lib.ListN.{length, take, drop, set, getD, length-set}
+use Rattle.answer.specs.Basics.{ℕ, zero, suc, _+_, _≤_, _<_, List, [], _∷_, _++_, map, length, take, drop, set, getD, _≡_}
+use native.Mathlib.{Omega.arith, Numerals.add-one}
+use mathlib.Core.Path.{refl, ap, sym, _∙_}
+use lib.ListN.{length-set}
 
 -- The first n places mapped, the others as they were.
 unfoldable pub mapped : (ℕ → ℕ) → (n : ℕ) → List ℕ → List ℕ

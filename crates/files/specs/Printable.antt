@@ -1,6 +1,5 @@
 -- A byte of a file's name as it is printed: a control character of ASCII, below 32 or 127, as a question mark.
-use Prim.Native.Nat.{ℕ}
-use lib.Dec.{ltb, eqb}
+use Rattle.answer.specs.Basics.{ℕ, eqb, ltb}
 use mathlib.Core.Bool.{cond}
 
 unfoldable pub printable : (byte : ℕ) → ℕ

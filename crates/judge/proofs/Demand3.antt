@@ -1,27 +1,18 @@
 -- Demand 3 about a file, from demand 3 over its tick list. Assumes nothing.
-use Prim.Native.Nat.{ℕ}
-use mathlib.Core.List.{List}
-use mathlib.Core.Path.{_≡_, sym, ap, subst, subst⁻¹, _∙_}
-use lib.ListN.{length, take}
+use Rattle.answer.specs.Basics.{ℕ, List, length, take, _≡_}
+use mathlib.Core.Path.{sym, ap, subst, subst⁻¹, _∙_}
 use lib.Seq.{take-append-seam}
-use Rattle.recording.specs.Ticks.{stepsOf}
-use Rattle.recording.specs.declared.step.Step.{Step}
+use Rattle.recording.specs.{Types.Step, Ticks.stepsOf}
 use Rattle.recording.proofs.GoodFormLaws.{good-form}
+use Rattle.transfer.specs.{Types.Limits, Types.Lines, Types.Byte, Limits.standardLimits, Outcome.outcome, Pair.values, Pair.SameOrLater}
 use Rattle.transfer.specs.Demand3.{Consistent, shownSender, shownReceiver, Explains, CompleteWith as CompleteTicks}
-use Rattle.transfer.specs.Limits.{standardLimits}
-use Rattle.transfer.specs.Outcome.{outcome}
-use Rattle.transfer.specs.Pair.{values, SameOrLater}
 use Rattle.answer.specs.Numbers.{verdictNumber}
-use Rattle.transfer.specs.declared.limits.Limits.{Limits}
-use Rattle.transfer.specs.declared.lines.Lines.{Lines}
-use Rattle.transfer.specs.declared.phase.Byte.{Byte}
 use Rattle.transfer.proofs.Demand3.{demand3, standard-consistent}
 use Rattle.answer.proofs.Numbers.{only-complete-is-20}
+use Rattle.judge.specs.Promise.{JudgePromise}
 use Rattle.judge.specs.Judged.{Judged, tickList, verdictLeaves, judged}
 use Rattle.judge.specs.Demand3.{GoodWithRoom, CompleteWith, dated, FileDemand3}
-use Rattle.judge.specs.Promise.{JudgePromise}
-use Rattle.judge.proofs.JudgedLaws.{is-verdict}
-use Rattle.judge.proofs.LedgerLists.{length-values, reads-ledger}
+use Rattle.judge.proofs.{JudgedLaws.is-verdict, LedgerLists.length-values, LedgerLists.reads-ledger}
 
 -- What is left at a verdict is complete with a string exactly if the tick list is.
 module _ (L : Limits) (w : List Lines) (steps : List Step) (b g : List ℕ) where

@@ -1,22 +1,14 @@
 -- How bytes that are handed over are stored in the lent buffers. Assumes nothing.
-use Prim.Native.Nat.{ℕ, _+_, _*_, _≤_}
-use mathlib.Core.Bool.{Bool, true, false}
-use mathlib.Core.List.{List, [], _∷_, _++_}
-use mathlib.Core.Path.{_≡_, refl, sym, ap, ap₂, _∙_}
+use Rattle.answer.specs.Basics.{ℕ, _+_, _*_, _≤_, Bool, true, false, List, [], _∷_, _++_, length, set, _≡_, eqb, if_then_else_}
+use mathlib.Core.Path.{refl, sym, ap, ap₂, _∙_}
 use native.Mathlib.Omega.{arith}
-use lib.Dec.{eqb}
-use lib.ListN.{length, set, length-set}
-use lib.Seq.{sets, sets-eq}
+use lib.{ListN.length-set, Seq.sets, Seq.sets-eq}
 use borrow.Author.Tests.{eqb-true, eqb-false}
 use Rattle.answer.specs.Lent.{_over_}
-use Rattle.answer.specs.Choice.{if_then_else_}
-use Rattle.transfer.specs.Pair.{values}
-use Rattle.transfer.specs.Moves.{heldByte}
-use Rattle.transfer.specs.declared.phase.Byte.{Byte}
+use Rattle.transfer.specs.{Types.Byte, Pair.values, Moves.heldByte}
 use Rattle.reader.specs.declared.state.State.{State}
 use Rattle.reader.proofs.TickLaws.{OneTick}
-use Rattle.judge.specs.Judged.{twoTicks}
-use Rattle.judge.specs.Reading.{withByte, withTicks}
+use Rattle.judge.specs.{Judged.twoTicks, Reading.withByte, Reading.withTicks}
 
 -- Stores from the first place on put these values in place of what stood there, and keep the rest.
 pub stored-first : (v b : List ℕ) → length v ≤ length b → sets b 0 v ≡ v over b

@@ -1,21 +1,12 @@
 -- The step that holds a tick: what it is, and the laws by which the search for it goes. Assumes nothing.
-use Prim.Native.Nat.{ℕ, zero, suc, _+_, _-_, _<_, _≤_}
-use mathlib.Core.Bool.{Bool, true, false}
-use mathlib.Core.List.{List, [], _∷_}
-use mathlib.Core.Path.{_≡_, refl, sym, ap, subst, _∙_}
+use Rattle.answer.specs.Basics.{ℕ, zero, suc, _+_, _-_, _≤_, _<_, Bool, true, false, List, [], _∷_, length, _≡_, ltb, if_then_else_}
+use mathlib.Core.Path.{refl, sym, ap, subst, _∙_}
 use native.Mathlib.Omega.{arith}
-use lib.Dec.{ltb}
-use lib.ListN.{length}
 use borrow.Author.Tests.{ltb-true, ltb-false, lt-ltb, le-ltb}
-use Rattle.answer.specs.Choice.{if_then_else_}
-use Rattle.recording.specs.Layout.{headerAt, stepAt}
+use Rattle.recording.specs.{Types.Header, Types.Step, Layout.headerAt, Layout.stepAt, GoodForm.GoodForm}
 use Rattle.recording.specs.Ticks.{stepsFrom, stepsOf, totalTicks, ticksOf}
-use Rattle.recording.specs.GoodForm.{GoodForm}
-use Rattle.recording.specs.declared.header.Header.{Header}
-use Rattle.recording.specs.declared.step.Step.{Step}
 use Rattle.recording.proofs.StepLaws.{steps-count, total-counts}
-use Rattle.judge.specs.Judged.{stepHolding}
-use Rattle.judge.specs.Mission.{Holds}
+use Rattle.judge.specs.{Judged.stepHolding, Mission.Holds}
 use Rattle.judge.proofs.JudgedLaws.{good-steps}
 
 -- The first of some steps holds the tick, or it doesn't.

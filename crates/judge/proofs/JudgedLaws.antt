@@ -1,18 +1,10 @@
 -- What the judge gives, case by case. Assumes nothing.
-use Prim.Native.Nat.{ℕ, _<_, _≤_}
-use mathlib.Core.List.{List}
-use mathlib.Core.Path.{_≡_, sym, ap, _∙_}
-use lib.ListN.{length}
+use Rattle.answer.specs.Basics.{ℕ, _≤_, _<_, List, length, _≡_}
+use mathlib.Core.Path.{sym, ap, _∙_}
 use borrow.Author.Tests.{lt-ltb, le-ltb}
-use Rattle.answer.specs.Answers.{refused}
-use Rattle.recording.specs.Form.{formOf}
-use Rattle.recording.specs.GoodForm.{GoodForm}
-use Rattle.recording.specs.Ticks.{stepsFrom, stepsOf}
-use Rattle.recording.specs.declared.form.Form.the-variants.{Good, Refused}
-use Rattle.answer.specs.declared.refusal.Refusal.{Refusal}
-use Rattle.answer.specs.declared.refusal.Refusal.the-variants.{ShortBuffers}
-use Rattle.transfer.specs.Outcome.{outcome}
-use Rattle.transfer.specs.declared.limits.Limits.{Limits}
+use Rattle.answer.specs.{Types.Refusal, Types.ShortBuffers, Answers.refused}
+use Rattle.recording.specs.{Types.Good, Types.Refused, Form.formOf, GoodForm.GoodForm, Ticks.stepsFrom, Ticks.stepsOf}
+use Rattle.transfer.specs.{Types.Limits, Outcome.outcome}
 use Rattle.judge.specs.Judged.{leaves, byteRoom, ledgerRoom, tickList, verdictLeaves, judgedInForm, judged}
 
 -- The steps of a recording of good form, as a loop over n steps reads them.

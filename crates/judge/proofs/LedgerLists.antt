@@ -1,13 +1,10 @@
 -- Bytes handed over, as the values and the ticks that the lent buffers begin with. Assumes nothing.
-use Prim.Native.Nat.{ℕ, _*_}
-use mathlib.Core.List.{List, [], _∷_, _++_}
-use mathlib.Core.Path.{_≡_, refl, ap}
+use Rattle.answer.specs.Basics.{ℕ, _*_, List, [], _∷_, _++_, length, _≡_}
+use mathlib.Core.Path.{refl, ap}
 use native.Mathlib.Omega.{arith}
-use lib.ListN.{length, length-map}
-use Rattle.transfer.specs.Pair.{values}
-use Rattle.transfer.specs.declared.phase.Byte.{Byte}
-use Rattle.judge.specs.Judged.{twoTicks}
-use Rattle.judge.specs.Demand3.{dated}
+use lib.ListN.{length-map}
+use Rattle.transfer.specs.{Types.Byte, Pair.values}
+use Rattle.judge.specs.{Judged.twoTicks, Demand3.dated}
 
 -- The bytes handed over are read off the byte buffer and the ledger.
 pub reads-ledger : (h : List Byte) (rest : List ℕ) → dated (values h) (twoTicks h ++ rest) ≡ h

@@ -1,14 +1,9 @@
 -- Why a file longer than any recording is answered by its beginning: both are refused, and for the same. Assumes nothing.
-use Prim.Native.Nat.{ℕ, _<_}
-use mathlib.Core.List.{List, [], _++_, append-nil}
-use mathlib.Core.Path.{_≡_, sym, ap, _∙_}
-use lib.ListN.{length}
-use Rattle.recording.specs.Form.{formOf}
-use Rattle.recording.specs.LongFiles.{longestRecording}
+use Rattle.answer.specs.Basics.{[]}
+use mathlib.Core.{List.append-nil, Path.sym, Path.ap, Path._∙_}
+use Rattle.recording.specs.{Form.formOf}
 use Rattle.recording.proofs.LongFiles.{long-form}
-use Rattle.transfer.specs.declared.limits.Limits.{Limits}
-use Rattle.judge.specs.Judged.{judged, judgedInForm}
-use Rattle.judge.specs.LongFiles.{LongFileLaw}
+use Rattle.judge.specs.{Judged.judged, Judged.judgedInForm, LongFiles.LongFileLaw}
 
 pub long-file : LongFileLaw
 unfolding judged judgedInForm

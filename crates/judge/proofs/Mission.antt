@@ -1,51 +1,28 @@
 -- What the station stands on. Assumes nothing.
-use Prim.Native.Nat.{ℕ, _≤_, _<_}
-use mathlib.Core.Bool.{Bool, true, false, false≢true}
-use mathlib.Core.List.{List, []}
-use mathlib.Core.Path.{_≡_, refl, sym, ap, subst⁻¹, _∙_}
+use Rattle.answer.specs.Basics.{ℕ, _≤_, Bool, true, false, List, [], length, _≡_, ltb}
+use mathlib.Core.Bool.{false≢true}
+use mathlib.Core.Path.{refl, sym, ap, subst⁻¹, _∙_}
 use native.Mathlib.Omega.{arith}
-use lib.Dec.{ltb}
-use lib.ListN.{length, length-map}
+use lib.ListN.{length-map}
 use borrow.Author.Tests.{ltb-true, ltb-false}
-use Rattle.answer.specs.Answers.{refused}
-use Rattle.recording.specs.Form.{formOf}
-use Rattle.recording.specs.GoodForm.{GoodForm}
-use Rattle.recording.specs.Layout.{headerAt}
+use Rattle.answer.specs.{Answers.refused, Numbers.verdictNumber, Numbers.IsVerdict}
+use Rattle.answer.specs.Types.{Refusal, ShortBuffers, Fault, Verdict, Complete, Cut, Broken}
+use Rattle.recording.specs.{Form.formOf, GoodForm.GoodForm, Layout.headerAt}
 use Rattle.recording.specs.Ticks.{stepsFrom, stepsOf, totalTicks, ticks, ticksOf}
-use Rattle.recording.specs.declared.form.Form.{Form}
-use Rattle.recording.specs.declared.form.Form.the-variants.{Good, Refused}
-use Rattle.recording.specs.declared.step.Step.{Step}
-use Rattle.recording.proofs.GoodFormLaws.{good-form}
-use Rattle.recording.proofs.StepLaws.{steps-count, total-counts}
-use Rattle.transfer.specs.Demand3.{Consistent}
-use Rattle.transfer.specs.Limits.{standardLimits}
-use Rattle.transfer.specs.Lines.{linesOf}
-use Rattle.transfer.specs.Outcome.{Outcome, run, outcome}
-use Rattle.transfer.specs.declared.phase.Phase.the-variants.{End}
-use Rattle.reader.specs.States.{firstState}
-use Rattle.reader.specs.After.{stateAfter}
+use Rattle.recording.specs.Types.{Form, Good, Refused, Step}
+use Rattle.recording.proofs.{GoodFormLaws.good-form, StepLaws.steps-count, StepLaws.total-counts}
+use Rattle.transfer.specs.{Types.End, Types.Phase, Types.Limits, Demand3.Consistent, Limits.standardLimits, Lines.linesOf, Outcome.Outcome}
+use Rattle.transfer.specs.{Outcome.run, Outcome.outcome, Pair.values, Moves.Stage, Moves.decisionIn, Moves.decisionOf}
+use Rattle.reader.specs.{States.firstState, After.stateAfter}
 use Rattle.reader.proofs.Outcomes.{outcome-states}
-use Rattle.transfer.specs.Pair.{values}
-use Rattle.answer.specs.Numbers.{verdictNumber, IsVerdict}
-use Rattle.answer.specs.declared.refusal.Refusal.{Refusal}
-use Rattle.answer.specs.declared.refusal.Refusal.the-variants.{ShortBuffers}
-use Rattle.answer.specs.declared.verdict.Fault.{Fault}
-use Rattle.answer.specs.declared.verdict.Verdict.{Verdict}
-use Rattle.answer.specs.declared.verdict.Verdict.the-variants.{Complete, Cut, Broken}
 use Rattle.answer.proofs.Numbers.{only-complete-is-20, only-cut-is-22, verdicts-are-no-refusals}
-use Rattle.transfer.specs.Moves.{Stage, decisionIn, decisionOf}
-use Rattle.transfer.specs.declared.phase.Phase.{Phase}
+use Rattle.transfer.proofs.{DecisionTicks.decision-tick, Demand3.demand3, Demand3.standard-consistent, Facts.pair-sends-bytes}
 use Rattle.transfer.proofs.Stages.{Told, is-running, is-end, is-decided, told}
-use Rattle.transfer.specs.declared.limits.Limits.{Limits}
-use Rattle.transfer.proofs.DecisionTicks.{decision-tick}
-use Rattle.transfer.proofs.Demand3.{demand3, standard-consistent}
-use Rattle.transfer.proofs.Facts.{pair-sends-bytes}
-use Rattle.judge.specs.Judged.{Judged, leaves, byteRoom, ledgerRoom, tickLines, tickList, twoTicks, stepHolding, verdictLeaves}
 use Rattle.judge.specs.Demand3.{GoodWithRoom}
+use Rattle.judge.specs.Judged.{Judged, leaves, byteRoom, ledgerRoom, tickLines, tickList, twoTicks, stepHolding, verdictLeaves}
 use Rattle.judge.specs.Mission.{Holds, AtTheEnd, given, Finished, Mission, MissionLaw, StandardMission}
-use Rattle.judge.proofs.HoldingLaws.{held-by-step, held-at-the-end}
+use Rattle.judge.proofs.{HoldingLaws.held-by-step, HoldingLaws.held-at-the-end, LedgerLists.length-values}
 use Rattle.judge.proofs.JudgedLaws.{good-steps, is-refused, few-places, few-ledger-places, is-verdict}
-use Rattle.judge.proofs.LedgerLists.{length-values}
 
 -- The ticks of a recording of good form, as its steps have them and as its header says.
 ticks-of : (file : List ℕ) → length (tickList file) ≡ totalTicks (stepsOf file)

@@ -1,28 +1,14 @@
 -- From what was read to what the judge gives. Assumes nothing.
-use Prim.Native.Nat.{ℕ, _≤_}
-use mathlib.Core.List.{List}
-use mathlib.Core.Path.{_≡_, sym, ap, ap₂, _∙_}
+use Rattle.answer.specs.Basics.{ℕ, _≤_, List, length, _≡_}
+use mathlib.Core.Path.{sym, ap, ap₂, _∙_}
 use native.Mathlib.Nat.{zero-add}
-use lib.ListN.{length}
-use Rattle.answer.specs.Lent.{_over_}
-use Rattle.answer.specs.declared.Answer.{Answer}
-use Rattle.recording.specs.Form.{formOf}
-use Rattle.recording.specs.Ticks.{stepsFrom}
-use Rattle.recording.specs.declared.form.Form.the-variants.{Good}
-use Rattle.recording.specs.declared.step.Step.{Step}
+use Rattle.answer.specs.{Types.Answer, Lent._over_, Numbers.verdictNumber}
+use Rattle.recording.specs.{Types.Good, Types.Step, Form.formOf, Ticks.stepsFrom}
 use Rattle.recording.proofs.GoodFormLaws.{good-form}
-use Rattle.reader.specs.After.{handedOver}
-use Rattle.transfer.specs.Outcome.{Outcome, outcome}
-use Rattle.transfer.specs.Pair.{values}
-use Rattle.reader.specs.States.{firstState}
-use Rattle.transfer.specs.Moves.{decisionOf}
-use Rattle.answer.specs.Numbers.{verdictNumber}
-use Rattle.transfer.specs.declared.limits.Limits.{Limits}
-use Rattle.transfer.specs.declared.lines.Lines.{Lines}
+use Rattle.reader.specs.{After.handedOver, States.firstState}
+use Rattle.transfer.specs.{Types.Limits, Types.Lines, Types.Decision, Outcome.Outcome, Outcome.outcome, Pair.values, Moves.decisionOf}
 use Rattle.reader.specs.declared.state.State.{State}
-use Rattle.transfer.specs.declared.decision.Decision.{Decision}
-use Rattle.reader.proofs.TickLaws.{counts}
-use Rattle.reader.proofs.Outcomes.{outcome-states}
+use Rattle.reader.proofs.{TickLaws.counts, Outcomes.outcome-states}
 use Rattle.judge.specs.Judged.{leaves, byteRoom, ledgerRoom, tickLines, twoTicks, stepHolding, verdictAnswer, verdictLeaves, judged}
 use Rattle.judge.specs.Reading.{ticksFrom, Reached, reached, readInto, stateAnswer}
 use Rattle.judge.proofs.JudgedLaws.{good-steps, is-verdict}

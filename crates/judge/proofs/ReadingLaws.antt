@@ -1,27 +1,18 @@
 -- The laws by which the two loops of a reading go, and what both keep. Assumes nothing.
-use Prim.Native.Nat.{ℕ, _+_, _*_, _<_, _≤_}
-use mathlib.Core.List.{List, [], _∷_, _++_}
-use mathlib.Core.Bool.{true}
-use mathlib.Core.Path.{_≡_, refl, sym, ap, ap₂, subst, _∙_}
+use Rattle.answer.specs.Basics.{ℕ, _+_, _*_, _≤_, _<_, true, List, [], _∷_, _++_, length, replicate, _≡_}
+use mathlib.Core.Path.{refl, sym, ap, ap₂, subst, _∙_}
 use native.Mathlib.Omega.{arith}
-use lib.ListN.{length, replicate}
 use lib.Seq.{sets}
-use Rattle.reader.specs.After.{stateAfter, handedIn, handedOver}
+use Rattle.reader.specs.{After.stateAfter, After.handedIn, After.handedOver, States.firstState, States.nextState}
 use Rattle.reader.specs.Idle.{idleTicks, later, Idle, Counted}
-use Rattle.transfer.specs.Pair.{values}
-use Rattle.reader.specs.States.{firstState, nextState}
-use Rattle.transfer.specs.Moves.{isDecided, heldByte}
-use Rattle.transfer.specs.declared.limits.Limits.{Limits}
-use Rattle.transfer.specs.declared.lines.Lines.{Lines}
-use Rattle.transfer.specs.declared.phase.Byte.{Byte}
+use Rattle.transfer.specs.{Types.Limits, Types.Lines, Types.Byte, Pair.values, Moves.isDecided, Moves.heldByte}
 use Rattle.reader.specs.declared.state.State.{State}
-use Rattle.reader.proofs.TickLaws.{OneTick, one-tick, counts, stands}
 use Rattle.reader.proofs.IdleLaws.{idle-law}
+use Rattle.reader.proofs.TickLaws.{OneTick, one-tick, counts, stands}
 use Rattle.judge.specs.Judged.{byteRoom, ledgerRoom, twoTicks}
 use Rattle.judge.specs.Reading.{withByte, withTicks, Reached, reached, readInto}
 use Rattle.judge.proofs.LedgerLists.{length-values, length-twoTicks}
-use Rattle.judge.proofs.HandedLists.{stored-first, byte-stored, ticks-stored}
-use Rattle.judge.proofs.HandedLists.{byte-keeps-length, ticks-keep-length}
+use Rattle.judge.proofs.HandedLists.{stored-first, byte-stored, ticks-stored, byte-keeps-length, ticks-keep-length}
 
 module _ (L : Limits) where
   -- What a reading comes to that has ticks w still before it: the bytes they hand over are stored after those that stand there.

@@ -1,25 +1,16 @@
 -- The ticks of a recording's steps as lines: by one step, in spans, and how many bytes they hand over. Assumes nothing.
-use Prim.Native.Nat.{ℕ, zero, suc, _+_, _-_, _<_, _≤_}
-use mathlib.Core.List.{List, [], _∷_, _++_, map, map-append}
-use mathlib.Core.Path.{_≡_, refl, sym, ap, subst, _∙_}
-use native.Mathlib.Nat.{sub-zero}
-use native.Mathlib.Omega.{arith}
-use lib.ListN.{length, replicate, length-map}
-use Rattle.recording.specs.Layout.{mostSteps, stepAt}
-use Rattle.recording.specs.Ticks.{stepsFrom, ticks}
-use Rattle.recording.specs.declared.step.Step.{Step}
+use Rattle.answer.specs.Basics.{ℕ, zero, suc, _+_, _-_, _≤_, _<_, List, [], _∷_, _++_, map, length, replicate, _≡_}
+use mathlib.Core.List.{map-append}
+use mathlib.Core.Path.{refl, sym, ap, subst, _∙_}
+use native.Mathlib.{Nat.sub-zero, Omega.arith}
+use lib.ListN.{length-map}
+use Rattle.recording.specs.{Types.Step, Layout.mostSteps, Layout.stepAt, Ticks.stepsFrom, Ticks.ticks}
 use Rattle.recording.proofs.StepLaws.{ticks-begin, ticks-end, steps-count}
-use Rattle.transfer.specs.Lines.{linesOf}
-use Rattle.reader.specs.After.{handedOver}
-use Rattle.transfer.specs.Outcome.{Outcome}
-use Rattle.transfer.specs.Spans.{Span, ticks as spanned}
-use Rattle.reader.specs.States.{firstState}
-use Rattle.transfer.specs.declared.limits.Limits.{Limits}
-use Rattle.transfer.specs.declared.lines.Lines.{Lines}
+use Rattle.transfer.specs.{Types.Limits, Types.Lines, Lines.linesOf, Outcome.Outcome, Spans.Span, Spans.ticks as spanned}
+use Rattle.reader.specs.{After.handedOver, States.firstState}
 use Rattle.transfer.proofs.Room.{room}
 use Rattle.reader.proofs.Outcomes.{outcome-states}
-use Rattle.judge.specs.Judged.{byteRoom}
-use Rattle.judge.specs.Reading.{ticksFrom}
+use Rattle.judge.specs.{Judged.byteRoom, Reading.ticksFrom}
 
 map-replicate : (n byte : ℕ) → map linesOf (replicate n byte) ≡ replicate n (linesOf byte)
 map-replicate zero byte = refl

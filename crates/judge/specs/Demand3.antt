@@ -1,13 +1,8 @@
 -- Demand 3 about a file: the statement of the crate transfer (its specs/Demand3.antt), said of what the judge leaves.
-use Prim.Native.Nat.{ℕ, _≤_}
-use mathlib.Core.Path.{_≡_}
-use mathlib.Core.List.{List, [], _∷_}
-use lib.ListN.{length}
+use Rattle.answer.specs.Basics.{ℕ, _≤_, List, [], _∷_, length, _≡_}
 use Rattle.answer.specs.Lent.{first}
 use Rattle.recording.specs.GoodForm.{GoodForm}
-use Rattle.transfer.specs.Demand3.{Demand3}
-use Rattle.transfer.specs.declared.limits.Limits.{Limits}
-use Rattle.transfer.specs.declared.phase.Byte.{Byte}
+use Rattle.transfer.specs.{Types.Limits, Types.Byte, Demand3.Demand3}
 use Rattle.judge.specs.Judged.{Judged, byteRoom, ledgerRoom, tickList}
 
 -- "Of good form, with enough room lent, if no refusal that the judge may give is due."

@@ -1,26 +1,10 @@
 -- What the judge answers and leaves, for any bytes and any lent buffers: document 01, "Numbers and what they leave".
-use Prim.Native.Nat.{ℕ, suc, _-_}
-use mathlib.Core.List.{List, [], _∷_, map}
-use lib.Dec.{ltb}
-use lib.ListN.{length}
-use Rattle.answer.specs.Answers.{refused}
-use Rattle.answer.specs.Lent.{_over_}
-use Rattle.answer.specs.declared.Answer.{Answer}
-use Rattle.answer.specs.declared.refusal.Refusal.the-variants.{ShortBuffers}
-use Rattle.answer.specs.Choice.{if_then_else_}
-use Rattle.recording.specs.Form.{formOf}
-use Rattle.recording.specs.Ticks.{stepsOf, ticks}
-use Rattle.recording.specs.declared.form.Form.{Form}
-use Rattle.recording.specs.declared.form.Form.the-variants.{Good, Refused}
-use Rattle.recording.specs.declared.step.Step.{Step}
-use Rattle.transfer.specs.Lines.{linesOf}
-use Rattle.transfer.specs.Outcome.{Outcome, outcome}
-use Rattle.transfer.specs.Pair.{values}
-use Rattle.answer.specs.Numbers.{verdictNumber}
-use Rattle.transfer.specs.declared.limits.Limits.{Limits}
-use Rattle.transfer.specs.declared.lines.Lines.{Lines}
-use Rattle.transfer.specs.declared.phase.Byte.{Byte}
-use Rattle.transfer.specs.declared.decision.Decision.{Decision}
+use Rattle.answer.specs.Basics.{ℕ, suc, _-_, List, [], _∷_, map, length, ltb, if_then_else_}
+use Rattle.answer.specs.{Types.Answer, Types.ShortBuffers, Answers.refused, Lent._over_, Numbers.verdictNumber}
+use Rattle.recording.specs.{Form.formOf, Ticks.stepsOf, Ticks.ticks}
+use Rattle.recording.specs.Types.{Form, Good, Refused, Step}
+use Rattle.transfer.specs.{Lines.linesOf, Outcome.Outcome, Outcome.outcome, Pair.values}
+use Rattle.transfer.specs.Types.{Limits, Lines, Byte, Decision}
 
 -- What the judge leaves: an answer, and both lent buffers.
 pub record Judged : Type 0 where

@@ -1,20 +1,11 @@
 -- What the station stands on, a line each: of what the judge gives for any recording and any lent buffers.
-use Prim.Native.Nat.{ℕ, suc, _<_, _≤_}
-use mathlib.Core.Path.{_≡_}
-use mathlib.Core.List.{List}
-use mathlib.Core.Logic.{_↔_}
-use Rattle.answer.specs.Numbers.{IsVerdict}
-use Rattle.answer.specs.declared.Answer.{Answer}
-use Rattle.recording.specs.Layout.{headerAt}
-use Rattle.recording.specs.Ticks.{stepsFrom, totalTicks}
-use Rattle.transfer.specs.Demand3.{Consistent}
-use Rattle.transfer.specs.Limits.{standardLimits}
-use Rattle.reader.specs.After.{stateAfter}
-use Rattle.reader.specs.States.{firstState}
-use Rattle.transfer.specs.declared.limits.Limits.{Limits}
-use Rattle.transfer.specs.declared.phase.Phase.the-variants.{End}
-use Rattle.judge.specs.Judged.{Judged, leaves, judged, tickList}
+use Rattle.answer.specs.Basics.{ℕ, suc, _≤_, _<_, List, _≡_, _↔_}
+use Rattle.answer.specs.{Types.Answer, Numbers.IsVerdict}
+use Rattle.recording.specs.{Layout.headerAt, Ticks.stepsFrom, Ticks.totalTicks}
+use Rattle.transfer.specs.{Types.Limits, Types.End, Demand3.Consistent, Limits.standardLimits}
+use Rattle.reader.specs.{After.stateAfter, States.firstState}
 use Rattle.judge.specs.Demand3.{GoodWithRoom}
+use Rattle.judge.specs.Judged.{Judged, leaves, judged, tickList}
 
 -- The step of a file that holds a tick: it has begun by then, and is not over.
 pub record Holds (file : List ℕ) (tick step : ℕ) : Type 0 where

@@ -1,10 +1,7 @@
 -- What an entry promises that judges a file: of the answer and of both lent buffers, whole, as the call leaves them.
-use Prim.Native.Nat.{ℕ}
-use mathlib.Core.List.{List}
-use mathlib.Core.Path.{_≡_}
-use Rattle.transfer.specs.declared.limits.Limits.{Limits}
-use Rattle.judge.specs.Judged.{Judged, judged}
-use Rattle.judge.specs.Demand3.{GoodWithRoom, FileDemand3}
+use Rattle.answer.specs.Basics.{ℕ, List, _≡_}
+use Rattle.transfer.specs.Types.{Limits}
+use Rattle.judge.specs.{Judged.Judged, Judged.judged, Demand3.GoodWithRoom, Demand3.FileDemand3}
 
 pub record JudgePromise (L : Limits) (file bytes ledger : List ℕ) (left : Judged) : Type 0 where
   -- They are what the definition gives.

@@ -1,21 +1,9 @@
 -- The reading of a recording as its functions go: what each of them promises to the entry.
-use Prim.Native.Nat.{ℕ, _+_, _*_, _^_, _≤_, _<_}
-use mathlib.Core.Path.{_≡_}
-use mathlib.Core.List.{List}
-use lib.Dec.{eqb}
-use lib.ListN.{length, set}
-use Rattle.answer.specs.Lent.{_over_}
-use Rattle.answer.specs.declared.Answer.{Answer}
-use Rattle.answer.specs.Choice.{if_then_else_}
-use Rattle.recording.specs.Layout.{mostSteps, fileLength}
-use Rattle.recording.specs.Ticks.{stepsFrom}
-use Rattle.recording.specs.declared.step.Step.{Step}
-use Rattle.reader.specs.After.{stateAfter, handedOver}
-use Rattle.transfer.specs.Pair.{values}
-use Rattle.reader.specs.States.{firstState}
-use Rattle.transfer.specs.Moves.{heldByte, decisionOf}
-use Rattle.transfer.specs.declared.limits.Limits.{Limits}
-use Rattle.transfer.specs.declared.lines.Lines.{Lines}
+use Rattle.answer.specs.Basics.{ℕ, _+_, _*_, _^_, _≤_, _<_, List, length, set, _≡_, eqb, if_then_else_}
+use Rattle.answer.specs.{Types.Answer, Lent._over_}
+use Rattle.recording.specs.{Types.Step, Layout.mostSteps, Layout.fileLength, Ticks.stepsFrom}
+use Rattle.reader.specs.{After.stateAfter, After.handedOver, States.firstState}
+use Rattle.transfer.specs.{Types.Limits, Types.Lines, Pair.values, Moves.heldByte, Moves.decisionOf}
 use Rattle.reader.specs.declared.state.State.{State}
 use Rattle.judge.specs.Judged.{byteRoom, ledgerRoom, tickLines, twoTicks, verdictAnswer}
 

@@ -1,17 +1,13 @@
 -- What the code's `if let` and `_` tell of a phase: its place among the variants of `Phase`, `Hold` being 2, `Carried` 10, E 11 and
 -- `Decided` 12. Assumes nothing.
-use Prim.Native.Nat.{ℕ}
-use mathlib.Core.Path.{_≡_, refl, sym, ap, subst}
-use mathlib.Core.Bool.{false}
-use mathlib.Core.List.{List, [], _∷_}
+use Rattle.answer.specs.Basics.{ℕ, false, List, [], _∷_, _≡_}
+use mathlib.Core.Path.{refl, sym, ap, subst}
 use denote.Enum.Declared.{tagOf}
 use types.Run.{OneOf, miss}
-use Rattle.transfer.specs.Moves.{Stage, hasFallen, isDecided, noByte, heldByte, decisionIn, decisionOf}
 use Rattle.transfer.specs.Decisions.{cutAt}
-use Rattle.transfer.specs.declared.phase.Phase.{Phase}
-use Rattle.transfer.specs.declared.phase.Phase.the-variants.{Start, FirstHold, Hold, ReadyToSend, ReadyForData}
-use Rattle.transfer.specs.declared.phase.Phase.the-variants.{Acknowledgement, Acknowledged, SetUp, Valid, Open, Carried}
-use Rattle.transfer.specs.declared.phase.Phase.the-variants.{End, Decided}
+use Rattle.transfer.specs.Moves.{Stage, hasFallen, isDecided, noByte, heldByte, decisionIn, decisionOf}
+use Rattle.transfer.specs.Types.{Phase, Start, FirstHold, Hold, ReadyToSend, ReadyForData, Acknowledgement, Acknowledged, SetUp, Valid}
+use Rattle.transfer.specs.Types.{Open, Carried, End, Decided}
 use Rattle.transfer.proofs.phase.Phase.{the-type}
 use Rattle.transfer.proofs.Stages.{Told, is-running, is-end, is-decided, told}
 

@@ -1,29 +1,19 @@
 -- Idle ticks: after a tick that goes on, the same lines keep the phase until its own limit. Assumes nothing.
-use Prim.Native.Nat.{ℕ, zero, suc, _+_, _-_, _<_, _≤_}
+use Rattle.answer.specs.Basics.{ℕ, zero, suc, _+_, _-_, _≤_, _<_, Bool, true, false, not, _&&_, _++_, replicate, _≡_, ltb, if_then_else_}
 use native.Mathlib.Omega.{arith}
-use mathlib.Core.Path.{_≡_, refl, sym, ap, _∙_}
-use mathlib.Core.Bool.{Bool, true, false, false≢true, not, _&&_}
-use mathlib.Core.List.{_++_}
-use lib.Dec.{ltb}
-use lib.ListN.{replicate}
+use mathlib.Core.Bool.{false≢true}
+use mathlib.Core.Path.{refl, sym, ap, _∙_}
 use borrow.Author.Tests.{lt-ltb, le-ltb, ltb-true, ltb-false, eq-eqb}
-use Rattle.answer.specs.Choice.{if_then_else_}
-use Rattle.transfer.specs.Offsets.{below}
+use Rattle.transfer.specs.{Offsets.below, Moves.isDecided, Moves.move}
 use Rattle.transfer.specs.Phases.{Move, Go, Hand, Stop, next, same}
-use Rattle.transfer.specs.Moves.{isDecided, move}
-use Rattle.reader.specs.States.{follow, nextState}
-use Rattle.reader.specs.After.{stateAfter, handedIn, handedOver}
+use Rattle.transfer.specs.Types.{Limits, Lines, Phase, Start, FirstHold, Hold, ReadyToSend, ReadyForData, Acknowledgement, Acknowledged}
+use Rattle.transfer.specs.Types.{SetUp, Valid, Open, Carried, End, Decided}
+use Rattle.reader.specs.{States.follow, States.nextState, After.stateAfter, After.handedIn, After.handedOver}
 use Rattle.reader.specs.Idle.{ticksBelow, Lasts, always, until, lasts, ticksIn, idleTicks, later, Idle, IdleLaw}
-use Rattle.transfer.specs.declared.limits.Limits.{Limits}
-use Rattle.transfer.specs.declared.lines.Lines.{Lines}
-use Rattle.transfer.specs.declared.phase.Phase.{Phase}
-use Rattle.transfer.specs.declared.phase.Phase.the-variants.{Start, FirstHold, Hold, ReadyToSend, ReadyForData}
-use Rattle.transfer.specs.declared.phase.Phase.the-variants.{Acknowledgement, Acknowledged, SetUp, Valid, Open, Carried}
-use Rattle.transfer.specs.declared.phase.Phase.the-variants.{End, Decided}
 use Rattle.reader.specs.declared.state.State.{State}
-use Rattle.answer.specs.declared.verdict.Fault.the-variants.{Attention}
-use Rattle.transfer.proofs.Rows.{Climbs, stops, goes, hands, climbs, rests, settled}
+use Rattle.answer.specs.Types.{Attention}
 use Rattle.transfer.proofs.Stages.{undecided, undecided-move}
+use Rattle.transfer.proofs.Rows.{Climbs, stops, goes, hands, climbs, rests, settled}
 
 -- The ticks below an offset, counted.
 pub all-below : (n since now most : ℕ) → now + most < since + n → most ≡ ticksBelow n since now most

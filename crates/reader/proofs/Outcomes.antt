@@ -1,24 +1,16 @@
 -- What the states come to is the outcome of specs/Outcome.antt of the crate below, where what follows a tick is a function of the phase
 -- alone. Assumes nothing.
-use Prim.Native.Nat.{ℕ, suc, _+_}
-use native.Mathlib.Omega.{arith}
-use native.Mathlib.Numerals.{add-one}
-use mathlib.Core.Path.{_≡_, refl, sym, ap, ap₂, _∙_}
-use mathlib.Core.Bool.{true, false}
-use mathlib.Core.List.{List, [], _∷_, _++_}
+use Rattle.answer.specs.Basics.{ℕ, suc, _+_, true, false, List, [], _∷_, _++_, _≡_}
+use native.Mathlib.{Omega.arith, Numerals.add-one}
+use mathlib.Core.Path.{refl, sym, ap, ap₂, _∙_}
 use borrow.Author.Tests.{eq-eqb, ne-eqb}
-use Rattle.answer.specs.Choice.{if_then_else_}
 use Rattle.transfer.specs.Phases.{Move, Go, Hand, Stop}
 use Rattle.transfer.specs.Moves.{move, isDecided, heldByte, decisionOf}
-use Rattle.transfer.specs.Outcome.{Outcome, decided, give, onward, run, outcome}
-use Rattle.transfer.specs.declared.limits.Limits.{Limits}
-use Rattle.transfer.specs.declared.lines.Lines.{Lines}
-use Rattle.transfer.specs.declared.phase.Byte.{Byte}
-use Rattle.transfer.specs.declared.phase.Phase.{Phase}
-use Rattle.transfer.specs.declared.phase.Phase.the-variants.{Start}
-use Rattle.answer.specs.declared.verdict.Fault.{Fault}
-use Rattle.transfer.proofs.Rows.{Climbs, stops, goes, hands, climbs, settled}
+use Rattle.transfer.specs.Outcome.{Outcome, decided, give, onward, run}
+use Rattle.transfer.specs.Types.{Limits, Lines, Byte, Phase}
+use Rattle.answer.specs.Types.{Fault}
 use Rattle.transfer.proofs.Stages.{undecided}
+use Rattle.transfer.proofs.Rows.{Climbs, stops, goes, hands, climbs, settled}
 use Rattle.reader.specs.States.{firstState, follow, nextState}
 use Rattle.reader.specs.After.{stateAfter, handedIn, handedOver, outcomeFrom, OutcomeLaw}
 use Rattle.reader.specs.declared.state.State.{State}

@@ -1,17 +1,12 @@
 -- What a proof searches with where the table goes by a line, a time or the bits left. Assumes nothing.
-use Prim.Native.Nat.{ℕ, zero, suc, _-_, _<_, _^_}
+use Rattle.answer.specs.Basics.{ℕ, zero, suc, _-_, _^_, _<_, Bool, true, false, _≡_}
 use native.Mathlib.Omega.{arith}
-use mathlib.Core.Path.{_≡_, refl, sym, ap, subst, _∙_}
-use mathlib.Core.Bool.{Bool, true, false}
+use mathlib.Core.Path.{refl, sym, ap, subst, _∙_}
 use borrow.Author.Tests.{eq-eqb, ne-eqb}
-use Rattle.transfer.specs.Offsets.{below, upTo}
-use Rattle.transfer.specs.Phases.{Move, same, afterBit}
-use Rattle.transfer.specs.Moves.{heldByte, decisionOf}
+use Rattle.transfer.specs.{Types.Lines, Types.Limits, Types.Phase, Offsets.below, Offsets.upTo, Phases.Move, Phases.same, Phases.afterBit}
+use Rattle.transfer.specs.{Moves.heldByte, Moves.decisionOf}
 use Rattle.reader.specs.States.{readIn}
-use Rattle.transfer.specs.declared.lines.Lines.{Lines}
-use Rattle.transfer.specs.declared.limits.Limits.{Limits}
 use Rattle.reader.specs.declared.state.State.{State}
-use Rattle.transfer.specs.declared.phase.Phase.{Phase}
 
 pub clk-on : (l : Lines) → l .clk ≡ true → l .clk ≡ true
 clk-on l e = e

@@ -1,21 +1,13 @@
 -- What a loop over the ticks keeps. Assumes nothing.
-use Prim.Native.Nat.{_+_, _≤_}
+use Rattle.answer.specs.Basics.{_+_, _≤_, Bool, true, false, List, [], _∷_, _++_, length, _≡_, eqb, if_then_else_}
 use native.Mathlib.Omega.{arith}
-use mathlib.Core.Path.{_≡_, refl, sym, ap, subst, _∙_}
-use mathlib.Core.Bool.{Bool, true, false, true≢false}
-use mathlib.Core.List.{List, [], _∷_, _++_}
-use lib.Dec.{eqb}
-use lib.ListN.{length}
+use mathlib.Core.Bool.{true≢false}
+use mathlib.Core.Path.{refl, sym, ap, subst, _∙_}
 use borrow.Author.Tests.{eqb-true, eqb-false, eq-eqb}
-use Rattle.answer.specs.Choice.{if_then_else_}
 use Rattle.transfer.specs.Phases.{Move, Go, Hand, Stop}
 use Rattle.transfer.specs.Moves.{hasFallen, isDecided, heldByte, move}
-use Rattle.reader.specs.States.{follow, nextState}
-use Rattle.reader.specs.After.{stateAfter, handedIn, handedOver}
-use Rattle.transfer.specs.declared.limits.Limits.{Limits}
-use Rattle.transfer.specs.declared.lines.Lines.{Lines}
-use Rattle.transfer.specs.declared.phase.Byte.{Byte}
-use Rattle.transfer.specs.declared.phase.Phase.{Phase}
+use Rattle.transfer.specs.Types.{Limits, Lines, Byte, Phase}
+use Rattle.reader.specs.{States.follow, States.nextState, After.stateAfter, After.handedIn, After.handedOver}
 use Rattle.transfer.proofs.Rows.{Climbs, stops, goes, hands, climbs}
 use Rattle.transfer.proofs.Stages.{Told, is-running, is-end, is-decided, told}
 use Rattle.reader.specs.declared.state.State.{State}

@@ -1,13 +1,6 @@
 -- A tick list read from a state on.
-use mathlib.Core.Path.{_≡_}
-use mathlib.Core.List.{List, [], _∷_, _++_}
-use lib.Dec.{eqb}
-use Rattle.answer.specs.Choice.{if_then_else_}
-use Rattle.transfer.specs.Moves.{heldByte, decisionOf}
-use Rattle.transfer.specs.Outcome.{Outcome, outcome}
-use Rattle.transfer.specs.declared.limits.Limits.{Limits}
-use Rattle.transfer.specs.declared.lines.Lines.{Lines}
-use Rattle.transfer.specs.declared.phase.Byte.{Byte}
+use Rattle.answer.specs.Basics.{List, [], _∷_, _++_, _≡_, eqb, if_then_else_}
+use Rattle.transfer.specs.{Types.Limits, Types.Lines, Types.Byte, Moves.heldByte, Moves.decisionOf, Outcome.Outcome, Outcome.outcome}
 use Rattle.reader.specs.States.{firstState, nextState}
 use Rattle.reader.specs.declared.state.State.{State}
 

@@ -1,21 +1,10 @@
 -- Idle ticks: those that only add one to the tick. A row of the table that goes on leads to a phase that the same lines keep, until the
 -- phase's own limit: so the further ticks of a step can be passed over in one move.
-use Prim.Native.Nat.{ℕ, _+_, _-_, _≤_}
-use mathlib.Core.Path.{_≡_}
-use mathlib.Core.Bool.{false}
-use mathlib.Core.List.{List, _++_}
-use lib.Dec.{ltb}
-use lib.ListN.{replicate}
-use Rattle.answer.specs.Choice.{if_then_else_}
+use Rattle.answer.specs.Basics.{ℕ, _+_, _-_, _≤_, false, List, _++_, replicate, _≡_, ltb, if_then_else_}
 use Rattle.transfer.specs.Moves.{isDecided}
-use Rattle.reader.specs.States.{nextState}
-use Rattle.reader.specs.After.{stateAfter, handedOver}
-use Rattle.transfer.specs.declared.limits.Limits.{Limits}
-use Rattle.transfer.specs.declared.lines.Lines.{Lines}
-use Rattle.transfer.specs.declared.phase.Phase.{Phase}
-use Rattle.transfer.specs.declared.phase.Phase.the-variants.{Start, FirstHold, Hold, ReadyToSend, ReadyForData}
-use Rattle.transfer.specs.declared.phase.Phase.the-variants.{Acknowledgement, Acknowledged, SetUp, Valid, Open, Carried}
-use Rattle.transfer.specs.declared.phase.Phase.the-variants.{End, Decided}
+use Rattle.transfer.specs.Types.{Limits, Lines, Phase, Start, FirstHold, Hold, ReadyToSend, ReadyForData, Acknowledgement, Acknowledged}
+use Rattle.transfer.specs.Types.{SetUp, Valid, Open, Carried, End, Decided}
+use Rattle.reader.specs.{States.nextState, After.stateAfter, After.handedOver}
 use Rattle.reader.specs.declared.state.State.{State}
 
 -- How many of `most` ticks, the first of them `now`, have an offset from `since` that is below n.

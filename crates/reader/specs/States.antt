@@ -1,11 +1,8 @@
 -- "Reading goes from state to state, one tick after another, and stops for good at the deciding tick."
-use Prim.Native.Nat.{_+_, _<_, _^_}
+use Rattle.answer.specs.Basics.{_+_, _^_, _<_}
 use Rattle.transfer.specs.Moves.{move}
 use Rattle.transfer.specs.Phases.{Move, Go, Hand, Stop, next}
-use Rattle.transfer.specs.declared.limits.Limits.{Limits}
-use Rattle.transfer.specs.declared.lines.Lines.{Lines}
-use Rattle.transfer.specs.declared.phase.Phase.{Phase}
-use Rattle.transfer.specs.declared.phase.Phase.the-variants.{Start, Decided}
+use Rattle.transfer.specs.Types.{Limits, Lines, Phase, Start, Decided}
 use Rattle.reader.specs.declared.state.State.{State}
 
 -- Before tick 0.

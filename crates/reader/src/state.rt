@@ -1,6 +1,6 @@
 // The state of the reading, and one tick of it.
 ghost use mathlib.Core.Path.{_≡_};
-ghost use Rattle.answer.specs.Choice.{if_then_else_};
+ghost use Rattle.answer.specs.Basics.{if_then_else_};
 ghost use Rattle.transfer.specs.Offsets.{below, upTo};
 ghost use Prim.Native.Nat.{_<_, _^_};
 ghost use Rattle.transfer.specs.Moves.{isDecided, heldByte, decisionOf};

@@ -1,15 +1,8 @@
 -- Where two rows of document 01 meet: tick lists whose outcomes show how it is read there, and on which tick each time falls.
 -- docs/DECISIONS.md gives the reasons.
-use Prim.Native.Nat.{ℕ}
-use mathlib.Core.Path.{_≡_}
-use mathlib.Core.List.{List, [], _∷_, _++_}
-use mathlib.Core.Bool.{Bool, true, _&&_}
-use lib.Dec.{eqb}
-use lib.ListN.{length}
-use Rattle.transfer.specs.Limits.{standardLimits}
-use Rattle.transfer.specs.Outcome.{outcome}
+use Rattle.answer.specs.Basics.{ℕ, Bool, true, _&&_, List, [], _∷_, _++_, length, _≡_, eqb}
+use Rattle.transfer.specs.{Limits.standardLimits, Outcome.outcome, Spans.Span, Spans.ticks}
 use Rattle.transfer.specs.SampleSpans.{_∶_, opening, bits, till41, s1}
-use Rattle.transfer.specs.Spans.{Span, ticks}
 use Rattle.answer.specs.Numbers.{verdictNumber}
 
 -- The byte 0x80, from tick 0 to the CLK pull after bit 8, which is tick 1,630.

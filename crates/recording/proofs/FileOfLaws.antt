@@ -1,20 +1,15 @@
 -- The recording of given steps: how long it is, and that reading it gives the steps back. Assumes nothing.
-use Prim.Native.Nat.{ℕ, zero, suc, _+_, _*_, _/_, _%_, _<_, _≤_}
-use mathlib.Core.List.{List, [], _∷_, _++_, append-assoc}
-use mathlib.Core.Path.{_≡_, refl, sym, ap, _∙_}
-use native.Mathlib.Nat.{add-zero, zero-add, div-div-eq-div-mul, mod-add-div', mod-eq-of-lt}
+use Rattle.answer.specs.Basics.{ℕ, zero, suc, _+_, _*_, _/_, _%_, _≤_, _<_, List, [], _∷_, _++_, length, getD, _≡_}
+use mathlib.Core.List.{append-assoc}
+use mathlib.Core.Path.{refl, sym, ap, _∙_}
 use native.Mathlib.Omega.{arith}
-use lib.ListN.{length, getD, length-append}
-use lib.Seq.{getD-append-add}
+use native.Mathlib.Nat.{add-zero, zero-add, div-div-eq-div-mul, mod-add-div', mod-eq-of-lt}
+use lib.{ListN.length-append, Seq.getD-append-add}
+use Rattle.recording.specs.{Types.Header, Types.Step, GoodForm.GoodStep}
 use Rattle.recording.specs.Layout.{headerAt, stepAt, headerSize, stepSize, mostSteps, longestDuration, stepPlace, fileLength}
 use Rattle.recording.specs.Ticks.{stepsFrom, stepsOf, totalTicks, ticks, ticksOf}
-use Rattle.recording.specs.GoodForm.{GoodStep}
-use Rattle.recording.specs.FileOf.{headerBytes, stepBytes, stepsBytes, goodHeader, fileOf}
-use Rattle.recording.specs.FileOf.{Recordable, FileOfLaw}
-use Rattle.recording.specs.declared.header.Header.{Header}
-use Rattle.recording.specs.declared.step.Step.{Step}
-use Rattle.recording.proofs.StepLaws.{total-counts}
-use Rattle.recording.proofs.GoodFormLaws.{each-more}
+use Rattle.recording.specs.FileOf.{headerBytes, stepBytes, stepsBytes, goodHeader, fileOf, Recordable, FileOfLaw}
+use Rattle.recording.proofs.{StepLaws.total-counts, GoodFormLaws.each-more}
 
 pub header-length : (h : Header) → length (headerBytes h) ≡ headerSize
 unfolding headerBytes

@@ -1,23 +1,12 @@
 -- How the form of a recording is decided, a test at a time. Each law takes what the code has read and what its test gave. Assumes nothing.
-use Prim.Native.Nat.{ℕ, _+_, _-_, _<_, _≤_}
-use mathlib.Core.List.{List}
-use mathlib.Core.Path.{_≡_, _∙_}
-use native.Mathlib.Nat.{sub-zero, add-zero, add-assoc}
-use native.Mathlib.Numerals.{add-one}
-use native.Mathlib.Omega.{arith}
-use lib.ListN.{length}
+use Rattle.answer.specs.Basics.{ℕ, _+_, _-_, _≤_, _<_, List, length, _≡_}
+use mathlib.Core.Path.{_∙_}
+use native.Mathlib.{Nat.sub-zero, Nat.add-zero, Nat.add-assoc, Numerals.add-one, Omega.arith}
 use borrow.Author.Tests.{lt-ltb, le-ltb}
-use Rattle.recording.specs.Layout.{headerAt, stepAt, headerSize}
-use Rattle.recording.specs.Ticks.{stepsFrom, stepsOf, totalTicks}
+use Rattle.recording.specs.{Layout.headerAt, Layout.stepAt, Layout.headerSize, Ticks.stepsFrom, Ticks.stepsOf, Ticks.totalTicks}
 use Rattle.recording.specs.Form.{headerTest, stepTest, afterTest, stepsForm, totalForm, bodyForm, formOf}
-use Rattle.recording.specs.declared.header.Header.{Header}
-use Rattle.recording.specs.declared.step.Step.{Step}
-use Rattle.answer.specs.declared.refusal.Refusal.{Refusal}
-use Rattle.answer.specs.declared.refusal.Refusal.the-variants.{ShortFile}
-use Rattle.recording.specs.declared.test.Test.{Test}
-use Rattle.recording.specs.declared.test.Test.the-variants.{Passed, Failed}
-use Rattle.recording.specs.declared.form.Form.{Form}
-use Rattle.recording.specs.declared.form.Form.the-variants.{Refused}
+use Rattle.recording.specs.Types.{Header, Step, Test, Passed, Failed, Form, Refused}
+use Rattle.answer.specs.Types.{Refusal, ShortFile}
 use Rattle.recording.proofs.StepLaws.{steps-begin, steps-end}
 
 pub short-file : (file : List ℕ) → length file < headerSize → formOf file ≡ Refused ShortFile 0

@@ -1,21 +1,13 @@
 -- A recording is not refused exactly if it has all that `GoodForm` says. Assumes nothing.
-use Prim.Native.Nat.{ℕ, zero, suc, _+_, _<_, _≤_}
-use mathlib.Core.List.{List}
-use mathlib.Core.Path.{_≡_, refl, sym, ap, _∙_}
-use native.Mathlib.Nat.{add-zero, zero-add}
-use native.Mathlib.Omega.{arith}
-use lib.Dec.{ltb}
+use Rattle.answer.specs.Basics.{ℕ, zero, suc, _+_, _≤_, _<_, List, length, _≡_, ltb, differs}
+use mathlib.Core.Path.{refl, sym, ap, _∙_}
+use native.Mathlib.{Nat.add-zero, Nat.zero-add, Omega.arith}
 use borrow.Author.Tests.{le-ltb, eq-eqb}
-use lib.ListN.{length}
-use Rattle.answer.specs.Choice.{differs}
+use Rattle.recording.specs.{Types.Form, Types.Good, GoodForm.GoodStep, GoodForm.GoodForm, GoodForm.GoodFormLaw}
 use Rattle.recording.specs.Layout.{headerAt, stepAt, headerSize, fileLength}
 use Rattle.recording.specs.Ticks.{stepsFrom, stepsOf, totalTicks, ticksOf}
 use Rattle.recording.specs.Form.{headerTest, stepTest, stepsForm, bodyForm, formOf}
-use Rattle.recording.specs.GoodForm.{GoodStep, GoodForm, GoodFormLaw}
-use Rattle.recording.specs.declared.form.Form.{Form}
-use Rattle.recording.specs.declared.form.Form.the-variants.{Good}
-use Rattle.recording.proofs.Tests.{good-else, good-after, same}
-use Rattle.recording.proofs.StepLaws.{total-counts}
+use Rattle.recording.proofs.{Tests.good-else, Tests.good-after, Tests.same, StepLaws.total-counts}
 use Rattle.recording.proofs.PassedLaws.{GoodHeader, header-passed, good-header-passes, step-passed, good-step-passes}
 
 -- What holds at i, and at each of the k places after it, holds at each of the k + 1 places from i on.

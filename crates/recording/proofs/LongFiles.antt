@@ -1,22 +1,14 @@
 -- Why the beginning decides for a file longer than any recording. Assumes nothing.
-use Prim.Native.Nat.{ℕ, zero, suc, _+_, _<_, _≤_}
-use mathlib.Core.Bool.{Bool, true, false}
-use mathlib.Core.List.{List, [], _∷_, _++_}
-use mathlib.Core.Path.{_≡_, refl, ap, _∙_}
+use Rattle.answer.specs.Basics.{ℕ, zero, suc, _+_, _<_, Bool, true, false, List, [], _∷_, _++_, length, _≡_, ltb, differs}
+use Rattle.answer.specs.Basics.{if_then_else_}
+use mathlib.Core.Path.{refl}
 use native.Mathlib.Omega.{arith}
-use lib.Dec.{ltb, eqb}
-use lib.ListN.{length, getD, length-append}
+use lib.ListN.{length-append}
 use borrow.Author.Tests.{ltb-false, le-ltb, ne-eqb}
-use Rattle.answer.specs.Choice.{if_then_else_, differs}
-use Rattle.recording.specs.Form.{headerTest, formOf}
+use Rattle.recording.specs.{Form.headerTest, Form.formOf, LongFiles.longestRecording, LongFiles.longRefusal, LongFiles.LongFormLaw}
 use Rattle.recording.specs.Layout.{byteAt, u16At, u32At, headerAt, headerSize, goodVersion, mostSteps, fileLength}
-use Rattle.recording.specs.LongFiles.{longestRecording, longRefusal, LongFormLaw}
-use Rattle.recording.specs.declared.header.Header.{Header}
-use Rattle.answer.specs.declared.refusal.Refusal.{Refusal}
-use Rattle.answer.specs.declared.refusal.Refusal.the-variants.{WrongVersion, TooManySteps, WrongOffset, WrongLength}
-use Rattle.recording.specs.declared.test.Test.{Test}
-use Rattle.recording.specs.declared.test.Test.the-variants.{Passed, Failed}
-use Rattle.recording.specs.declared.form.Form.the-variants.{Refused}
+use Rattle.recording.specs.Types.{Header, Passed, Failed}
+use Rattle.answer.specs.Types.{WrongVersion, TooManySteps, WrongOffset, WrongLength}
 
 byte-before : (b r : List ℕ) (k : ℕ) → k < length b → byteAt (b ++ r) k ≡ byteAt b k
 byte-before [] r k h = absurd (omega arith)

@@ -1,16 +1,9 @@
 -- A header and a step pass their tests exactly if they are good. Assumes nothing.
-use Prim.Native.Nat.{ℕ, _≤_}
-use mathlib.Core.Path.{_≡_}
+use Rattle.answer.specs.Basics.{ℕ, _≤_, _≡_, eqb, ltb, leb, differs}
 use native.Mathlib.Omega.{arith}
-use lib.Dec.{eqb, ltb, leb}
 use borrow.Author.Tests.{ltb-false, leb-false, eqb-false, le-ltb, lt-leb, eq-eqb, ne-eqb}
-use Rattle.answer.specs.Choice.{differs}
+use Rattle.recording.specs.{Types.Header, Types.Step, Types.Passed, Form.headerTest, Form.stepTest, GoodForm.GoodStep}
 use Rattle.recording.specs.Layout.{headerSize, goodVersion, mostSteps, lineBound, fileLength}
-use Rattle.recording.specs.Form.{headerTest, stepTest}
-use Rattle.recording.specs.GoodForm.{GoodStep}
-use Rattle.recording.specs.declared.header.Header.{Header}
-use Rattle.recording.specs.declared.step.Step.{Step}
-use Rattle.recording.specs.declared.test.Test.the-variants.{Passed}
 use Rattle.recording.proofs.Tests.{passed-on, same}
 
 pub record GoodHeader (h : Header) (size : ℕ) : Type 0 where

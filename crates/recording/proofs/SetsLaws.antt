@@ -1,11 +1,7 @@
 -- Runs of stores: one run after another is one run. Assumes nothing.
-use Prim.Native.Nat.{ℕ, suc, _+_}
-use mathlib.Core.List.{List, [], _∷_, _++_}
-use mathlib.Core.Path.{_≡_, sym}
-use native.Mathlib.Nat.{add-zero}
-use native.Mathlib.Numerals.{add-one}
-use native.Mathlib.Omega.{arith}
-use lib.ListN.{length, set}
+use Rattle.answer.specs.Basics.{ℕ, suc, _+_, List, [], _∷_, _++_, length, set, _≡_}
+use mathlib.Core.Path.{sym}
+use native.Mathlib.{Nat.add-zero, Numerals.add-one, Omega.arith}
 use lib.Seq.{sets}
 
 pub sets-append : (l : List ℕ) (at : ℕ) (xs ys : List ℕ) → sets l at (xs ++ ys) ≡ sets (sets l at xs) (at + length xs) ys

@@ -1,13 +1,10 @@
 -- How the steps of a recording, and their ticks, go on by one step: for a loop at step i of n. Assumes nothing.
-use Prim.Native.Nat.{ℕ, zero, suc, _+_, _-_, _<_, _≤_}
-use mathlib.Core.List.{List, [], _∷_, _++_}
-use mathlib.Core.Path.{_≡_, refl, ap}
-use native.Mathlib.Numerals.{add-one}
-use native.Mathlib.Omega.{arith}
-use lib.ListN.{length, length-append, length-replicate}
-use Rattle.recording.specs.Layout.{stepAt}
+use Rattle.answer.specs.Basics.{ℕ, zero, suc, _+_, _-_, _≤_, _<_, List, [], _∷_, _++_, length, _≡_}
+use mathlib.Core.Path.{refl, ap}
+use native.Mathlib.{Numerals.add-one, Omega.arith}
+use lib.ListN.{length-append, length-replicate}
+use Rattle.recording.specs.{Types.Step, Layout.stepAt}
 use Rattle.recording.specs.Ticks.{stepsFrom, totalTicks, stepTicks, ticks}
-use Rattle.recording.specs.declared.step.Step.{Step}
 
 one-less : (i n : ℕ) → i < n → n - i ≡ suc (n - (i + 1))
 one-less i n h = omega arith

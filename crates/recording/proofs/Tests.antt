@@ -1,17 +1,11 @@
 -- What a test says: the rules that a proof searches with where a definition goes by tests, and what a passed test leaves. Assumes nothing.
-use Prim.Native.Nat.{ℕ}
-use mathlib.Core.Bool.{Bool, true, false}
-use mathlib.Core.Path.{_≡_, refl}
+use Rattle.answer.specs.Basics.{ℕ, Bool, true, false, _≡_, eqb, differs, if_then_else_}
+use mathlib.Core.Path.{refl}
 use native.Mathlib.Omega.{arith}
-use lib.Dec.{eqb}
 use borrow.Author.Tests.{lt-ltb, le-ltb, le-leb, lt-leb, eq-eqb, ne-eqb, eqb-true, not-false}
-use Rattle.answer.specs.Choice.{if_then_else_, differs}
 use Rattle.recording.specs.Form.{afterTest}
-use Rattle.answer.specs.declared.refusal.Refusal.{Refusal}
-use Rattle.recording.specs.declared.test.Test.{Test}
-use Rattle.recording.specs.declared.test.Test.the-variants.{Passed, Failed}
-use Rattle.recording.specs.declared.form.Form.{Form}
-use Rattle.recording.specs.declared.form.Form.the-variants.{Good, Refused}
+use Rattle.recording.specs.Types.{Test, Passed, Failed, Form, Good, Refused}
+use Rattle.answer.specs.Types.{Refusal}
 
 pub ruleset tests = (lt-ltb, le-ltb, le-leb, lt-leb, eq-eqb, ne-eqb)
 

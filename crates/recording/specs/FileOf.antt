@@ -1,13 +1,7 @@
 -- The other way round: the bytes of a recording that has given steps.
-use Prim.Native.Nat.{ℕ, _/_, _%_, _≤_}
-use mathlib.Core.List.{List, [], _∷_, _++_}
-use mathlib.Core.Path.{_≡_}
-use lib.ListN.{length}
+use Rattle.answer.specs.Basics.{ℕ, _/_, _%_, _≤_, List, [], _∷_, _++_, length, _≡_}
+use Rattle.recording.specs.{Types.Header, Types.Step, Ticks.stepsOf, Ticks.totalTicks, GoodForm.GoodStep, GoodForm.GoodForm}
 use Rattle.recording.specs.Layout.{headerSize, goodVersion, mostSteps, longestDuration, fileLength}
-use Rattle.recording.specs.Ticks.{stepsOf, totalTicks}
-use Rattle.recording.specs.GoodForm.{GoodStep, GoodForm}
-use Rattle.recording.specs.declared.header.Header.{Header}
-use Rattle.recording.specs.declared.step.Step.{Step}
 
 -- A number in two bytes and in four, little-endian.
 abbrev pub twoBytes : ℕ → List ℕ

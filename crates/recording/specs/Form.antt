@@ -1,19 +1,9 @@
 -- The refusals 1 to 8 of document 01, "tested in this order", each row's words beside its test.
-use Prim.Native.Nat.{ℕ, suc}
-use mathlib.Core.List.{List, [], _∷_}
-use lib.ListN.{length}
-use lib.Dec.{ltb, leb, eqb}
-use Rattle.answer.specs.Choice.{if_then_else_, differs}
-use Rattle.recording.specs.Layout.{headerAt, headerSize, goodVersion, mostSteps, lineBound, fileLength}
+use Rattle.answer.specs.Basics.{ℕ, suc, List, [], _∷_, length, eqb, ltb, leb, differs, if_then_else_}
 use Rattle.recording.specs.Ticks.{stepsOf, totalTicks}
-use Rattle.recording.specs.declared.header.Header.{Header}
-use Rattle.recording.specs.declared.step.Step.{Step}
-use Rattle.answer.specs.declared.refusal.Refusal.the-variants.{ShortFile, WrongVersion, TooManySteps, WrongOffset}
-use Rattle.answer.specs.declared.refusal.Refusal.the-variants.{WrongLength, ZeroDuration, StrayBits, WrongTotal}
-use Rattle.recording.specs.declared.test.Test.{Test}
-use Rattle.recording.specs.declared.test.Test.the-variants.{Passed, Failed}
-use Rattle.recording.specs.declared.form.Form.{Form}
-use Rattle.recording.specs.declared.form.Form.the-variants.{Good, Refused}
+use Rattle.recording.specs.Layout.{headerAt, headerSize, goodVersion, mostSteps, lineBound, fileLength}
+use Rattle.recording.specs.Types.{Header, Step, Test, Passed, Failed, Form, Good, Refused}
+use Rattle.answer.specs.Types.{ShortFile, WrongVersion, TooManySteps, WrongOffset, WrongLength, ZeroDuration, StrayBits, WrongTotal}
 
 -- Refusals 2 to 5, of a header and the file's true length.
 unfoldable pub headerTest : Header → ℕ → Test

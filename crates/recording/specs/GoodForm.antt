@@ -1,15 +1,7 @@
 -- What holds of a recording of good form.
-use Prim.Native.Nat.{ℕ, _<_, _≤_}
-use mathlib.Core.List.{List}
-use mathlib.Core.Logic.{_↔_}
-use mathlib.Core.Path.{_≡_}
-use lib.ListN.{length}
-use Rattle.recording.specs.Form.{formOf}
-use Rattle.recording.specs.Layout.{byteAt, headerAt, stepAt, headerSize, goodVersion, mostSteps}
-use Rattle.recording.specs.Layout.{lineBound, fileLength}
-use Rattle.recording.specs.Ticks.{ticksOf}
-use Rattle.recording.specs.declared.form.Form.the-variants.{Good}
-use Rattle.recording.specs.declared.step.Step.{Step}
+use Rattle.answer.specs.Basics.{ℕ, _≤_, _<_, List, length, _≡_, _↔_}
+use Rattle.recording.specs.{Types.Good, Types.Step, Form.formOf, Ticks.ticksOf}
+use Rattle.recording.specs.Layout.{byteAt, headerAt, stepAt, headerSize, goodVersion, mostSteps, lineBound, fileLength}
 
 -- No refusal 6 or 7.
 pub record GoodStep (s : Step) : Type 0 where

@@ -1,9 +1,6 @@
 -- Document 01, "Recording layout": a header of 16 bytes, then steps of 4 bytes each, little-endian.
-use Prim.Native.Nat.{ℕ, _+_, _*_}
-use mathlib.Core.List.{List}
-use lib.ListN.{getD}
-use Rattle.recording.specs.declared.header.Header.{Header}
-use Rattle.recording.specs.declared.step.Step.{Step}
+use Rattle.answer.specs.Basics.{ℕ, _+_, _*_, List, getD}
+use Rattle.recording.specs.Types.{Header, Step}
 
 abbrev pub headerSize : ℕ
 headerSize = 16

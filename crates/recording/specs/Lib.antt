@@ -1,4 +1,5 @@
 -- What a recording's bytes mean, and when a recording is refused.
+pub mod Types
 pub mod Layout
 pub mod Ticks
 pub mod Form

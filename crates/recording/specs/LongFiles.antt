@@ -1,17 +1,9 @@
 -- A file longer than any recording: however it goes on, its beginning decides for what it is refused. So a reader may leave off after
 -- one byte more than the longest recording has.
-use Prim.Native.Nat.{ℕ, _<_}
-use mathlib.Core.List.{List, _++_}
-use mathlib.Core.Path.{_≡_}
-use lib.Dec.{ltb}
-use lib.ListN.{length}
-use Rattle.answer.specs.Choice.{if_then_else_, differs}
-use Rattle.recording.specs.Form.{formOf}
+use Rattle.answer.specs.Basics.{ℕ, _<_, List, _++_, length, _≡_, ltb, differs, if_then_else_}
+use Rattle.recording.specs.{Types.Header, Types.Refused, Form.formOf}
 use Rattle.recording.specs.Layout.{headerAt, headerSize, goodVersion, mostSteps, fileLength}
-use Rattle.recording.specs.declared.header.Header.{Header}
-use Rattle.answer.specs.declared.refusal.Refusal.{Refusal}
-use Rattle.answer.specs.declared.refusal.Refusal.the-variants.{WrongVersion, TooManySteps, WrongOffset, WrongLength}
-use Rattle.recording.specs.declared.form.Form.the-variants.{Refused}
+use Rattle.answer.specs.Types.{Refusal, WrongVersion, TooManySteps, WrongOffset, WrongLength}
 
 -- 16+4n for the largest n: 64,016 bytes.
 abbrev pub longestRecording : ℕ

@@ -1,7 +1,6 @@
 -- Recordings written out as steps, and document 01's S1 so: its steps, and its whole file as it is printed there.
-use Prim.Native.Nat.{ℕ, zero, suc}
-use mathlib.Core.List.{List, [], _∷_, _++_}
-use Rattle.recording.specs.declared.step.Step.{Step}
+use Rattle.answer.specs.Basics.{ℕ, zero, suc, List, [], _∷_, _++_}
+use Rattle.recording.specs.Types.{Step}
 
 -- A step, "as duration:lines".
 infix 90 _∶_

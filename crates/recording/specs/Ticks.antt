@@ -1,9 +1,6 @@
 -- The steps of a recording, and the list of ticks that they mean.
-use Prim.Native.Nat.{ℕ, zero, suc, _+_}
-use mathlib.Core.List.{List, [], _∷_, _++_}
-use lib.ListN.{replicate}
-use Rattle.recording.specs.Layout.{headerAt, stepAt}
-use Rattle.recording.specs.declared.step.Step.{Step}
+use Rattle.answer.specs.Basics.{ℕ, zero, suc, _+_, List, [], _∷_, _++_, replicate}
+use Rattle.recording.specs.{Types.Step, Layout.headerAt, Layout.stepAt}
 
 -- The n steps from step i on.
 unfoldable pub stepsFrom : List ℕ → ℕ → ℕ → List Step

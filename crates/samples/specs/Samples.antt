@@ -1,17 +1,10 @@
 -- Document 01, "Sample recordings": the starred ones, in its order, each judged as a whole file; a cut after a byte;
 -- and every refusal.
-use Prim.Native.Nat.{ℕ, zero, suc}
-use mathlib.Core.List.{List, [], _∷_, _++_, map}
-use mathlib.Core.Path.{_≡_}
-use lib.ListN.{replicate}
-use Rattle.answer.specs.Lent.{_over_}
-use Rattle.answer.specs.declared.Answer.{Answer}
-use Rattle.recording.specs.FileOf.{headerBytes, fileOf}
+use Rattle.answer.specs.Basics.{ℕ, List, [], _∷_, _++_, map, replicate, _≡_}
+use Rattle.answer.specs.{Types.Answer, Lent._over_}
+use Rattle.recording.specs.{Types.Step, FileOf.headerBytes, FileOf.fileOf}
 use Rattle.recording.specs.SampleSteps.{_∶_, zeros, s1With, s1, s80With, s1File}
-use Rattle.recording.specs.declared.step.Step.{Step}
-use Rattle.transfer.specs.Limits.{standardLimits}
-use Rattle.transfer.specs.SampleSpans.{s1 as s1Spans}
-use Rattle.transfer.specs.Spans.{ticks}
+use Rattle.transfer.specs.{Limits.standardLimits, SampleSpans.s1 as s1Spans, Spans.ticks}
 use Rattle.judge.specs.Judged.{Judged, leaves, tickLines, judged}
 
 -- The steps of a recording, its answer, and what the two buffers then begin with.

@@ -1,13 +1,11 @@
 -- What an entry promises of its answer, it promises of the same four numbers at the border. Assumes nothing.
-use Prim.Native.Nat.{ℕ}
-use mathlib.Core.List.{List}
-use mathlib.Core.Path.{_≡_, subst⁻¹}
-use Rattle.answer.specs.declared.Answer.{Answer}
+use Rattle.answer.specs.Basics.{ℕ, List, _≡_}
+use mathlib.Core.Path.{subst⁻¹}
+use Rattle.answer.specs.Types.{Answer}
 use Rattle.transfer.specs.Limits.{standardLimits}
 use Rattle.judge.specs.Judged as Judged
 use Rattle.judge.specs.Promise.{JudgePromise}
-use Rattle.writer.specs.Card.{standardCard}
-use Rattle.writer.specs.Promise.{WritePromise}
+use Rattle.writer.specs.{Card.standardCard, Promise.WritePromise}
 use Rattle.writer.specs.Written as Written
 use Rattle.station.specs.Border.{answerOf}
 use Rattle.station.specs.declared.StationAnswer.{StationAnswer}

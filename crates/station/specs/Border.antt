@@ -1,5 +1,5 @@
 -- The answer that the four numbers at the border stand for: the same four.
-use Rattle.answer.specs.declared.Answer.{Answer}
+use Rattle.answer.specs.Types.{Answer}
 use Rattle.station.specs.declared.StationAnswer.{StationAnswer}
 
 abbrev pub answerOf : StationAnswer → Answer

@@ -1,39 +1,21 @@
 -- A complete recording has a pair: the run read back as a plan, row by row. Assumes nothing.
-use Prim.Native.Nat.{ℕ, zero, suc, _+_, _≤_, _<_}
+use Rattle.answer.specs.Basics.{ℕ, zero, suc, _+_, _≤_, _<_, Bool, true, false, List, [], _∷_, _++_, map, replicate, _≡_, eqb, ltb, leb}
+use Rattle.answer.specs.Basics.{if_then_else_}
 use native.Mathlib.Omega.{arith}
-use mathlib.Core.Path.{_≡_, refl, ap, _∙_, subst⁻¹}
 use mathlib.Core.Logic.{inl, inr}
-use mathlib.Core.Bool.{Bool, true, false}
-use mathlib.Core.List.{List, [], _∷_, _++_, map}
-use lib.ListN.{replicate}
-use lib.Dec.{ltb, leb, eqb}
+use mathlib.Core.Path.{refl, ap, _∙_, subst⁻¹}
 use borrow.Author.Tests.{ltb-true, ltb-false, leb-true, leb-false}
-use Rattle.answer.specs.Choice.{if_then_else_}
-use Rattle.transfer.specs.Offsets.{below, upTo}
+use Rattle.transfer.specs.{Offsets.below, Offsets.upTo, Decisions.cutAt, Rules.PlanRules, Demand3.Consistent}
 use Rattle.transfer.specs.Phases.{Move, Go, Stop, next, same, withBit, handover, afterBit}
 use Rattle.transfer.specs.Moves.{Stage, Running, Ended, Fallen, stage, unlessFallen, move, decisionIn}
-use Rattle.transfer.specs.Decisions.{cutAt}
 use Rattle.transfer.specs.Outcome.{Outcome, decided, ended, give, onward, run}
-use Rattle.transfer.specs.Parties.{Pulls, nobody, held, clock, clockHeld, sets, offers, Plan, track}
-use Rattle.transfer.specs.Parties.{sendingBytes, planBytes}
-use Rattle.transfer.specs.Rules.{PlanRules}
-use Rattle.transfer.specs.Demand3.{Consistent}
-use Rattle.transfer.specs.declared.limits.Limits.{Limits}
-use Rattle.transfer.specs.declared.lines.Lines.{Lines}
-use Rattle.transfer.specs.declared.phase.Byte.{Byte}
-use Rattle.transfer.specs.declared.phase.Phase.{Phase}
-use Rattle.transfer.specs.declared.phase.Phase.the-variants.{Start, FirstHold, Hold, ReadyToSend, ReadyForData}
-use Rattle.transfer.specs.declared.phase.Phase.the-variants.{Acknowledgement, Acknowledged, SetUp, Valid, Open, Carried}
-use Rattle.transfer.specs.declared.phase.Phase.the-variants.{End, Decided}
-use Rattle.answer.specs.declared.verdict.Fault.{Fault}
-use Rattle.answer.specs.declared.verdict.Fault.the-variants.{Attention, ClockStall}
-use Rattle.answer.specs.declared.verdict.Verdict.{Verdict}
-use Rattle.answer.specs.declared.verdict.Verdict.the-variants.{Complete, Cut, Broken}
-use Rattle.transfer.proofs.Rows.{lines}
+use Rattle.transfer.specs.Parties.{Pulls, nobody, held, clock, clockHeld, sets, offers, Plan, track, sendingBytes, planBytes}
+use Rattle.transfer.specs.Types.{Limits, Lines, Byte, Phase, Start, FirstHold, Hold, ReadyToSend, ReadyForData, Acknowledgement}
+use Rattle.transfer.specs.Types.{Acknowledged, SetUp, Valid, Open, Carried, End, Decided}
+use Rattle.answer.specs.Types.{Fault, Attention, ClockStall, Verdict, Complete, Cut, Broken}
+use Rattle.transfer.proofs.{Rows.lines, Forward.shows, Plans.sends}
 use Rattle.transfer.proofs.Stages.{Told, is-running, is-end, is-decided, told, released-move}
-use Rattle.transfer.proofs.Forward.{shows}
 use Rattle.transfer.proofs.Shapes.{clockKept, leaves, stay, one, many, Tidy, opens, carries, Shape}
-use Rattle.transfer.proofs.Plans.{sends}
 
 abbrev IsComplete : Verdict → Type 0
 IsComplete Complete = Unit {0}

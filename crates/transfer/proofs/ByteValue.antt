@@ -1,14 +1,7 @@
 -- Eight bits taken in one after another make the byte that the sender's bits are worth. Assumes nothing.
-use Prim.Native.Nat.{ℕ, _+_, _*_, _/_, _≤_}
+use Rattle.answer.specs.Basics.{ℕ, _+_, _*_, _/_, _≤_, Bool, true, false, List, [], _∷_, map, length, _≡_, if_then_else_}
 use native.Mathlib.Omega.{arith}
-use mathlib.Core.Path.{_≡_}
-use mathlib.Core.Bool.{Bool, true, false}
-use mathlib.Core.List.{List, [], _∷_, map}
-use lib.ListN.{length}
-use Rattle.answer.specs.Choice.{if_then_else_}
-use Rattle.transfer.specs.Phases.{withBit}
-use Rattle.transfer.specs.Parties.{Bit, valueOf}
-use Rattle.transfer.specs.Rules.{lastOf}
+use Rattle.transfer.specs.{Phases.withBit, Parties.Bit, Parties.valueOf, Rules.lastOf}
 
 -- The judge's way: bits taken in after `value`.
 abbrev pub takenIn : (value : ℕ) → List Bit → ℕ

@@ -1,23 +1,15 @@
 -- Where the tick of a decision lies: at the end for a cut, otherwise inside the recording. Assumes nothing.
-use Prim.Native.Nat.{ℕ, suc, _+_, _≤_, _<_}
+use Rattle.answer.specs.Basics.{ℕ, suc, _+_, _≤_, _<_, Bool, true, false, List, [], _∷_, length, _≡_}
 use native.Mathlib.Omega.{arith}
-use mathlib.Core.Path.{_≡_, refl, sym, ap, _∙_}
-use mathlib.Core.Bool.{Bool, true, false, true≢false}
-use mathlib.Core.List.{List, [], _∷_}
-use lib.ListN.{length}
+use mathlib.Core.Bool.{true≢false}
+use mathlib.Core.Path.{refl, sym, ap, _∙_}
+use Rattle.transfer.specs.{Outcome.onward, Outcome.run, Outcome.outcome, Decisions.cutAt}
 use Rattle.transfer.specs.Phases.{Move, Go, Hand, Stop}
 use Rattle.transfer.specs.Moves.{Stage, Running, Ended, Fallen, stage, hasFallen, isDecided, decisionIn}
-use Rattle.transfer.specs.Outcome.{onward, run, outcome}
-use Rattle.transfer.specs.Decisions.{cutAt}
-use Rattle.transfer.specs.declared.limits.Limits.{Limits}
-use Rattle.transfer.specs.declared.lines.Lines.{Lines}
-use Rattle.transfer.specs.declared.phase.Phase.{Phase}
-use Rattle.transfer.specs.declared.phase.Phase.the-variants.{Start}
-use Rattle.transfer.specs.declared.decision.Decision.{Decision}
-use Rattle.answer.specs.declared.verdict.Verdict.{Verdict}
-use Rattle.answer.specs.declared.verdict.Verdict.the-variants.{Complete, Cut, Broken}
-use Rattle.transfer.proofs.Rows.{Climbs, stops, goes, hands, climbs, finishedIn, latestIn, finished, latest}
+use Rattle.transfer.specs.Types.{Limits, Lines, Phase, Start, Decision}
+use Rattle.answer.specs.Types.{Verdict, Complete, Cut, Broken}
 use Rattle.transfer.proofs.Stages.{undecided}
+use Rattle.transfer.proofs.Rows.{Climbs, stops, goes, hands, climbs, finishedIn, latestIn, finished, latest}
 
 no-later : (g : Stage) (now : ℕ) → finishedIn g ≤ now → latestIn g now ≤ suc now
 no-later Running now h = omega arith

@@ -1,26 +1,16 @@
 -- Demand 3 over tick lists, for all times that are consistent, and at document 01's own. Assumes nothing.
-use Prim.Native.Nat.{ℕ}
+use Rattle.answer.specs.Basics.{ℕ, Bool, _||_, List, [], _∷_, map, _≡_}
 use native.Mathlib.Omega.{arith}
-use mathlib.Core.Path.{_≡_, refl, sym, ap, ap₂, _∙_, subst, subst⁻¹}
-use mathlib.Core.Bool.{Bool, _||_}
-use mathlib.Core.List.{List, [], _∷_, map}
-use Rattle.transfer.specs.Limits.{standardLimits}
-use Rattle.transfer.specs.Outcome.{run, outcome}
-use Rattle.transfer.specs.Parties.{Pulls, pulls, track}
+use mathlib.Core.Path.{refl, sym, ap, ap₂, _∙_, subst, subst⁻¹}
+use Rattle.transfer.specs.{Limits.standardLimits, Outcome.run, Outcome.outcome, Parties.Pulls, Parties.pulls, Parties.track}
+use Rattle.transfer.specs.{Shown.shown}
 use Rattle.transfer.specs.Pair.{SenderPulls, senderPulls, receiverPulls, gives, values, SameOrLater}
-use Rattle.transfer.specs.Shown.{shown}
 use Rattle.transfer.specs.Demand3.{Consistent, CompleteWith, shownSender, shownReceiver, Explains, Explained, OutcomeDemand3}
-use Rattle.transfer.specs.Demand3.{Demand3Law}
-use Rattle.transfer.specs.Demand3.{StandardDemand3}
-use Rattle.transfer.specs.declared.limits.Limits.{Limits}
-use Rattle.transfer.specs.declared.lines.Lines.{Lines}
-use Rattle.transfer.specs.declared.phase.Byte.{Byte}
-use Rattle.answer.specs.declared.verdict.Verdict.the-variants.{Complete}
-use Rattle.transfer.specs.declared.phase.Phase.the-variants.{Start}
-use Rattle.transfer.proofs.Rows.{lines}
-use Rattle.transfer.proofs.Forward.{shows, CompleteBy, along}
-use Rattle.transfer.proofs.Backward.{Planned, back}
-use Rattle.transfer.proofs.Shown.{shows-plan}
+use Rattle.transfer.specs.Demand3.{Demand3Law, StandardDemand3}
+use Rattle.transfer.specs.Types.{Limits, Lines, Byte, Start}
+use Rattle.answer.specs.Types.{Complete}
+use Rattle.transfer.proofs.{Rows.lines, Forward.shows, Forward.CompleteBy, Forward.along, Backward.Planned, Backward.back}
+use Rattle.transfer.proofs.{Shown.shows-plan}
 
 gives-shows : (js : List Pulls) → gives (map senderPulls js) (map receiverPulls js) ≡ map shows js
 gives-shows [] = refl

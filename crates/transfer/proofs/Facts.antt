@@ -1,29 +1,16 @@
 -- Facts that keep the statements from being empty or wide.
 -- Assumes nothing.
-use Prim.Native.Nat.{ℕ, suc, _+_, _*_, _^_, _≤_, _<_}
-use native.Mathlib.Omega.{arith}
-use native.Mathlib.Nat.{pow-suc}
-use mathlib.Core.Path.{_≡_, refl, sym, subst}
-use mathlib.Core.Bool.{Bool, true, false}
-use mathlib.Core.List.{List, [], _∷_}
-use lib.ListN.{length}
+use Rattle.answer.specs.Basics.{ℕ, suc, _+_, _*_, _^_, _≤_, _<_, Bool, true, false, List, [], _∷_, length, _≡_, if_then_else_}
+use native.Mathlib.{Omega.arith, Nat.pow-suc}
+use mathlib.Core.Path.{refl, sym, subst}
 use borrow.Author.Needs.{needs}
-use Rattle.answer.specs.Choice.{if_then_else_}
-use Rattle.transfer.specs.Limits.{standardLimits}
-use Rattle.transfer.specs.Offsets.{below, upTo}
+use Rattle.transfer.specs.{Types.Limits, Types.Lines, Limits.standardLimits, Offsets.below, Offsets.upTo, Moves.move, Outcome.run}
+use Rattle.transfer.specs.{Demand3.Explains, Demand3.CompleteWith, Spans.ticks, SampleSpans.s1}
 use Rattle.transfer.specs.Phases.{next, same, withBit, handover, afterBit}
-use Rattle.transfer.specs.Moves.{move}
-use Rattle.transfer.specs.Outcome.{run}
 use Rattle.transfer.specs.Parties.{Bit, Frame, Sending, more, last, valueOf, sendingBytes, planBytes}
 use Rattle.transfer.specs.Rules.{BitRule, FrameRules, SendingRules, PlanRules}
 use Rattle.transfer.specs.Pair.{senderTrack, receiverTrack, gives, values}
-use Rattle.transfer.specs.Demand3.{Explains, CompleteWith}
-use Rattle.transfer.specs.Spans.{ticks}
-use Rattle.transfer.specs.SampleSpans.{s1}
-use Rattle.transfer.specs.Facts.{AllBytes, SomeBytes, PairSendsBytes, S1Explained, oneTick, byte80}
-use Rattle.transfer.specs.Facts.{TwoPairs}
-use Rattle.transfer.specs.declared.limits.Limits.{Limits}
-use Rattle.transfer.specs.declared.lines.Lines.{Lines}
+use Rattle.transfer.specs.Facts.{AllBytes, SomeBytes, PairSendsBytes, S1Explained, oneTick, byte80, TwoPairs}
 use Rattle.transfer.proofs.Demand3.{standard-demand3}
 
 -- A pair is for a string of one or more bytes, each below 256.

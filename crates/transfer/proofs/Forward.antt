@@ -1,35 +1,22 @@
 -- A pair's recording is complete: the run goes along a plan, phase by phase. Assumes nothing.
-use Prim.Native.Nat.{ℕ, zero, suc, _+_, _≤_, _<_}
+use Rattle.answer.specs.Basics.{ℕ, zero, suc, _+_, _≤_, _<_, Bool, true, false, _||_, List, [], _∷_, _++_, map, length, replicate, _≡_}
+use Rattle.answer.specs.Basics.{if_then_else_}
 use native.Mathlib.Omega.{arith}
-use mathlib.Core.Path.{_≡_, refl, sym, ap, _∙_, subst, subst⁻¹}
-use mathlib.Core.Bool.{Bool, true, false, _||_}
-use mathlib.Core.List.{List, [], _∷_, _++_, map, append-nil}
-use lib.ListN.{length, replicate}
+use mathlib.Core.List.{append-nil}
+use mathlib.Core.Path.{refl, sym, ap, _∙_, subst, subst⁻¹}
 use borrow.Author.Tests.{lt-ltb, le-ltb, le-leb, lt-leb}
-use Rattle.answer.specs.Choice.{if_then_else_}
-use Rattle.transfer.specs.Offsets.{below, upTo}
+use Rattle.transfer.specs.{Offsets.below, Offsets.upTo, Moves.heldByte, Pair.SameOrLater, Demand3.Consistent}
 use Rattle.transfer.specs.Phases.{Move, Go, Hand, next, same, withBit, handover, afterBit}
-use Rattle.transfer.specs.Moves.{heldByte}
 use Rattle.transfer.specs.Outcome.{Outcome, ended, give, onward, run}
-use Rattle.transfer.specs.Parties.{Pulls, pulls, nobody, held, clock, clockHeld, sets, offers, Bit, Frame}
-use Rattle.transfer.specs.Parties.{Sending, more, last, Plan, bitsTrack, frameTrack, sendingTrack, track}
-use Rattle.transfer.specs.Parties.{bitsTicks, byteOf, afterFrame, sendingBytes, planBytes}
+use Rattle.transfer.specs.Parties.{Pulls, pulls, nobody, held, clock, clockHeld, sets, offers, Bit, Frame, Sending, more, last, Plan}
+use Rattle.transfer.specs.Parties.{bitsTrack, frameTrack, sendingTrack, track, bitsTicks, byteOf, afterFrame, sendingBytes, planBytes}
 use Rattle.transfer.specs.Rules.{lastOf, FirstTakeRule, FirstReleaseRule, LetGoRule, EndMarkRule, BitRule, BitRules, FrameRules}
 use Rattle.transfer.specs.Rules.{SendingRules, PlanRules}
-use Rattle.transfer.specs.Pair.{SameOrLater}
-use Rattle.transfer.specs.Demand3.{Consistent}
-use Rattle.transfer.specs.declared.limits.Limits.{Limits}
-use Rattle.transfer.specs.declared.lines.Lines.{Lines}
-use Rattle.transfer.specs.declared.phase.Byte.{Byte}
-use Rattle.transfer.specs.declared.phase.Phase.{Phase}
-use Rattle.transfer.specs.declared.phase.Phase.the-variants.{Start, FirstHold, Hold, ReadyToSend, ReadyForData}
-use Rattle.transfer.specs.declared.phase.Phase.the-variants.{Acknowledgement, Acknowledged, SetUp, Valid, Open, Carried}
-use Rattle.transfer.specs.declared.phase.Phase.the-variants.{End}
-use Rattle.answer.specs.declared.verdict.Verdict.the-variants.{Complete}
-use Rattle.transfer.proofs.Rows.{lines}
-use Rattle.transfer.proofs.Stages.{released-move}
+use Rattle.transfer.specs.Types.{Limits, Lines, Byte, Phase, Start, FirstHold, Hold, ReadyToSend, ReadyForData, Acknowledgement}
+use Rattle.transfer.specs.Types.{Acknowledged, SetUp, Valid, Open, Carried, End}
+use Rattle.answer.specs.Types.{Complete}
+use Rattle.transfer.proofs.{Rows.lines, Stages.released-move, ByteValue.takenIn, ByteValue.lastBit, ByteValue.eight-bits}
 use Rattle.transfer.proofs.HandoverTicks.{isPositive, less, handoverTicks, frameTicks, frame-ticks}
-use Rattle.transfer.proofs.ByteValue.{takenIn, lastBit, eight-bits}
 
 -- What the bus shows of one tick of both tracks.
 abbrev pub shows : Pulls → Lines

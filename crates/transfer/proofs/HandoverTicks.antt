@@ -1,10 +1,7 @@
 -- The ticks of a handover, as the proofs go along them: the offsets of the letting go and of the take count down. Assumes nothing.
-use Prim.Native.Nat.{ℕ, zero, suc, _-_}
+use Rattle.answer.specs.Basics.{ℕ, zero, suc, _-_, Bool, true, false, List, [], _∷_, _++_, _≡_, ltb, leb}
 use native.Mathlib.Omega.{arith}
-use mathlib.Core.Path.{_≡_, refl, ap, ap₂, _∙_}
-use mathlib.Core.Bool.{Bool, true, false}
-use mathlib.Core.List.{List, [], _∷_, _++_}
-use lib.Dec.{ltb, leb}
+use mathlib.Core.Path.{refl, ap, ap₂, _∙_}
 use borrow.Author.Tests.{lt-ltb, le-ltb, le-leb, lt-leb}
 use Rattle.transfer.specs.Parties.{Pulls, pulls, Frame, bitsTrack, handoverTrack, frameTrack}
 

@@ -1,24 +1,16 @@
 -- The shapes of specs' tracks as plans: what follows a letting go is what a plan that keeps the rules sends. Assumes nothing.
-use Prim.Native.Nat.{ℕ, zero, suc, _+_, _≤_}
+use Rattle.answer.specs.Basics.{ℕ, zero, suc, _+_, _≤_, Bool, true, false, List, [], _∷_, _++_, map, length, replicate, _≡_}
 use native.Mathlib.Omega.{arith}
-use mathlib.Core.Path.{_≡_, refl, sym, ap, ap₂, _∙_, subst, subst⁻¹, subst₂}
 use mathlib.Core.Logic.{inl, inr}
-use mathlib.Core.Bool.{Bool, true, false}
-use mathlib.Core.List.{List, [], _∷_, _++_, map}
-use lib.ListN.{length, replicate}
-use Rattle.transfer.specs.Phases.{withBit}
-use Rattle.transfer.specs.Parties.{Pulls, nobody, held, clock, clockHeld, sets, offers, Bit}
-use Rattle.transfer.specs.Parties.{Frame, more, last, bitsTrack, frameTrack, bitsTicks}
-use Rattle.transfer.specs.Parties.{byteOf, afterFrame, sendingBytes}
+use mathlib.Core.Path.{refl, sym, ap, ap₂, _∙_, subst, subst⁻¹, subst₂}
+use Rattle.transfer.specs.{Types.Limits, Types.Byte, Phases.withBit, Demand3.Consistent}
+use Rattle.transfer.specs.Parties.{Pulls, nobody, held, clock, clockHeld, sets, offers, Bit, Frame, more, last, bitsTrack, frameTrack}
+use Rattle.transfer.specs.Parties.{bitsTicks, byteOf, afterFrame, sendingBytes}
 use Rattle.transfer.specs.Rules.{lastOf, ReleaseRule, PlainRule, EndMarkRule, BitRules, HandoverRule, FrameRules}
-use Rattle.transfer.specs.Demand3.{Consistent}
-use Rattle.transfer.specs.declared.limits.Limits.{Limits}
-use Rattle.transfer.specs.declared.phase.Byte.{Byte}
-use Rattle.transfer.proofs.HandoverTicks.{handoverTicks, frame-ticks}
-use Rattle.transfer.proofs.ByteValue.{takenIn, lastBit, eight-bits}
-use Rattle.transfer.proofs.Shapes.{clockKept, Stays, First, Many, many, joined, Sends, AfterHold, HandsOver}
-use Rattle.transfer.proofs.Shapes.{Carries, Handover, opens, carries, Bits}
-use Rattle.transfer.proofs.Shapes.{AfterD}
+use Rattle.transfer.proofs.{HandoverTicks.handoverTicks, HandoverTicks.frame-ticks, ByteValue.takenIn, ByteValue.lastBit}
+use Rattle.transfer.proofs.{ByteValue.eight-bits}
+use Rattle.transfer.proofs.Shapes.{clockKept, Stays, First, Many, many, joined, Sends, AfterHold, HandsOver, Carries, Handover}
+use Rattle.transfer.proofs.Shapes.{opens, carries, Bits, AfterD}
 
 -- l ticks with the sender on DATA, t with nobody on it, k with the receiver.
 pub handover-is : (l t k u n : ℕ) (js : List Pulls) → l + t ≡ u → u + k ≡ n

@@ -1,18 +1,10 @@
 -- The room law: a byte takes nineteen steps at the least. Assumes nothing.
-use Prim.Native.Nat.{ℕ, zero, suc, _+_, _*_, _≤_}
+use Rattle.answer.specs.Basics.{ℕ, zero, suc, _+_, _*_, _≤_, Bool, true, false, List, [], _∷_, _++_, length, replicate, _≡_}
 use native.Mathlib.Omega.{arith}
-use mathlib.Core.Path.{_≡_, ap}
-use mathlib.Core.Bool.{Bool, true, false}
-use mathlib.Core.List.{List, [], _∷_, _++_}
-use lib.ListN.{length, replicate}
+use mathlib.Core.Path.{ap}
+use Rattle.transfer.specs.{Outcome.onward, Outcome.run, Outcome.outcome, Spans.Span, Spans.ticks, Room.Room, Room.RoomLaw}
 use Rattle.transfer.specs.Phases.{Move, Go, Hand, Stop}
-use Rattle.transfer.specs.Outcome.{onward, run, outcome}
-use Rattle.transfer.specs.Spans.{Span, ticks}
-use Rattle.transfer.specs.Room.{Room, RoomLaw}
-use Rattle.transfer.specs.declared.limits.Limits.{Limits}
-use Rattle.transfer.specs.declared.lines.Lines.{Lines}
-use Rattle.transfer.specs.declared.phase.Phase.{Phase}
-use Rattle.transfer.specs.declared.phase.Phase.the-variants.{Start}
+use Rattle.transfer.specs.Types.{Limits, Lines, Phase, Start}
 use Rattle.transfer.proofs.Rows.{Climbs, stops, goes, hands, climbs, settled, place, further, most}
 
 one-at-most : (t : Bool) → further t ≤ 1

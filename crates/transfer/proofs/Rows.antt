@@ -2,25 +2,16 @@
 -- to a phase that its own lines keep, so that no row leads to `Decided`, and it comes one place further at most, not at all where
 -- the lines stay. Where it leads to the end, the finish tick is the tick itself or the one that stood. A byte that it hands over is
 -- the one that the phase holds, and was taken by then. Assumes nothing.
-use Prim.Native.Nat.{ℕ, zero, suc, _+_, _-_, _*_, _≤_, _<_}
+use Rattle.answer.specs.Basics.{ℕ, zero, suc, _+_, _-_, _*_, _≤_, _<_, Bool, true, false, not, _&&_, _≡_, eqb, ltb, leb, if_then_else_}
 use native.Mathlib.Omega.{arith}
-use mathlib.Core.Path.{_≡_, refl}
-use mathlib.Core.Bool.{Bool, true, false, not, _&&_}
-use lib.Dec.{eqb, ltb, leb}
+use mathlib.Core.Path.{refl}
 use borrow.Author.Tests.{ltb-false, leb-false}
-use Rattle.answer.specs.Choice.{if_then_else_}
 use Rattle.transfer.specs.Offsets.{below, upTo}
 use Rattle.transfer.specs.Phases.{Move, Go, Hand, Stop, next, same, handover, afterBit}
 use Rattle.transfer.specs.Moves.{Stage, Running, Ended, Fallen, stage, unlessFallen, move, heldByte}
-use Rattle.transfer.specs.declared.limits.Limits.{Limits}
-use Rattle.transfer.specs.declared.lines.Lines.{Lines}
-use Rattle.transfer.specs.declared.phase.Byte.{Byte}
-use Rattle.transfer.specs.declared.phase.Phase.{Phase}
-use Rattle.transfer.specs.declared.phase.Phase.the-variants.{Start, FirstHold, Hold, ReadyToSend, ReadyForData}
-use Rattle.transfer.specs.declared.phase.Phase.the-variants.{Acknowledgement, Acknowledged, SetUp, Valid, Open, Carried}
-use Rattle.transfer.specs.declared.phase.Phase.the-variants.{End, Decided}
-use Rattle.answer.specs.declared.verdict.Fault.{Fault}
-use Rattle.answer.specs.declared.verdict.Fault.the-variants.{Attention}
+use Rattle.transfer.specs.Types.{Limits, Lines, Byte, Phase, Start, FirstHold, Hold, ReadyToSend, ReadyForData, Acknowledgement}
+use Rattle.transfer.specs.Types.{Acknowledged, SetUp, Valid, Open, Carried, End, Decided}
+use Rattle.answer.specs.Types.{Fault, Attention}
 
 -- How far the reading of a byte has come: 19 places make a byte.
 abbrev pub place : Phase → ℕ

@@ -1,22 +1,13 @@
 -- What may follow in each phase of a run that ends complete, as ticks of both tracks: so many ticks of one kind, then a tick of another.
 -- Assumes nothing.
-use Prim.Native.Nat.{ℕ, zero, suc, _+_, _≤_, _<_}
+use Rattle.answer.specs.Basics.{ℕ, zero, suc, _+_, _≤_, _<_, Bool, true, false, List, [], _∷_, _++_, map, length, replicate, _≡_}
 use native.Mathlib.Omega.{arith}
-use mathlib.Core.Path.{_≡_, refl, ap, _∙_}
-use mathlib.Core.Logic.{_⊎_}
-use mathlib.Core.Bool.{Bool, true, false}
-use mathlib.Core.List.{List, [], _∷_, _++_, map}
-use lib.ListN.{length, replicate}
-use Rattle.transfer.specs.Phases.{withBit}
-use Rattle.transfer.specs.Parties.{Pulls, pulls, nobody, held, clock, clockHeld, sets, offers, Sending}
-use Rattle.transfer.specs.Parties.{more, last, sendingTrack, sendingBytes}
-use Rattle.transfer.specs.Rules.{lastOf, SendingRules}
-use Rattle.transfer.specs.declared.limits.Limits.{Limits}
-use Rattle.transfer.specs.declared.phase.Byte.{Byte}
-use Rattle.transfer.specs.declared.phase.Phase.{Phase}
-use Rattle.transfer.specs.declared.phase.Phase.the-variants.{Start, FirstHold, Hold, ReadyToSend, ReadyForData}
-use Rattle.transfer.specs.declared.phase.Phase.the-variants.{Acknowledgement, Acknowledged, SetUp, Valid, Open, Carried}
-use Rattle.transfer.specs.declared.phase.Phase.the-variants.{End, Decided}
+use mathlib.Core.{Path.refl, Path.ap, Path._∙_, Logic._⊎_}
+use Rattle.transfer.specs.{Phases.withBit, Rules.lastOf, Rules.SendingRules}
+use Rattle.transfer.specs.Parties.{Pulls, pulls, nobody, held, clock, clockHeld, sets, offers, Sending, more, last, sendingTrack}
+use Rattle.transfer.specs.Parties.{sendingBytes}
+use Rattle.transfer.specs.Types.{Limits, Byte, Phase, Start, FirstHold, Hold, ReadyToSend, ReadyForData, Acknowledgement}
+use Rattle.transfer.specs.Types.{Acknowledged, SetUp, Valid, Open, Carried, End, Decided}
 
 -- The sender pulls CLK and keeps DATA.
 abbrev pub clockKept : Pulls

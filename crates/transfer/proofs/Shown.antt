@@ -1,23 +1,15 @@
 -- The shown pair of a tidy plan's recording and of the plan's own ticks is the plan's tracks. Assumes nothing.
-use Prim.Native.Nat.{ℕ, zero, suc, _+_, _≤_, _<_}
+use Rattle.answer.specs.Basics.{ℕ, zero, suc, _+_, _≤_, _<_, Bool, true, false, _||_, List, [], _∷_, _++_, map, length, replicate, _≡_}
+use Rattle.answer.specs.Basics.{if_then_else_}
 use native.Mathlib.Omega.{arith}
-use mathlib.Core.Path.{_≡_, refl, ap, _∙_, subst, subst⁻¹}
-use mathlib.Core.Bool.{Bool, true, false, _||_}
-use mathlib.Core.List.{List, [], _∷_, _++_, map}
-use lib.ListN.{length, replicate}
+use mathlib.Core.Path.{refl, ap, _∙_, subst, subst⁻¹}
 use borrow.Author.Tests.{lt-ltb, le-ltb}
-use Rattle.answer.specs.Choice.{if_then_else_}
-use Rattle.transfer.specs.Parties.{Pulls, pulls, nobody, held, clock, clockHeld, sets, offers, Bit, Frame}
-use Rattle.transfer.specs.Parties.{Sending, more, last, Plan, bitsTrack, frameTrack, sendingTrack, track}
-use Rattle.transfer.specs.Parties.{bitsTicks, byteOf, afterFrame, sendingBytes, planBytes}
-use Rattle.transfer.specs.Rules.{FrameRules, SendingRules, PlanRules}
+use Rattle.transfer.specs.{Types.Limits, Types.Byte, Rules.FrameRules, Rules.SendingRules, Rules.PlanRules, Demand3.Consistent}
+use Rattle.transfer.specs.Parties.{Pulls, pulls, nobody, held, clock, clockHeld, sets, offers, Bit, Frame, Sending, more, last, Plan}
+use Rattle.transfer.specs.Parties.{bitsTrack, frameTrack, sendingTrack, track, bitsTicks, byteOf, afterFrame, sendingBytes, planBytes}
 use Rattle.transfer.specs.Shown.{Turn, holding, waiting, sending, pullsIn, shownFrom, shown}
-use Rattle.transfer.specs.Demand3.{Consistent}
-use Rattle.transfer.specs.declared.limits.Limits.{Limits}
-use Rattle.transfer.specs.declared.phase.Byte.{Byte}
-use Rattle.transfer.proofs.Forward.{shows}
+use Rattle.transfer.proofs.{Forward.shows, Shapes.Tidy}
 use Rattle.transfer.proofs.HandoverTicks.{isZero, less, handoverTicks, frame-ticks}
-use Rattle.transfer.proofs.Shapes.{Tidy}
 
 -- The ticks are shown as they are, from a tick and a turn on. It is a record so that tick and turn are found from what is to be shown.
 record Same (now : ℕ) (turn : Turn) (js : List Pulls) : Type 0 where

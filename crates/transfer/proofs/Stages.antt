@@ -1,18 +1,12 @@
 -- What the stage tells of a phase, and what keeps one running. Assumes nothing.
-use Prim.Native.Nat.{ℕ}
-use mathlib.Core.Path.{_≡_, refl, sym, ap, subst, subst⁻¹}
-use mathlib.Core.Bool.{Bool, true, false, false≢true, not, _&&_}
-use Rattle.answer.specs.Choice.{if_then_else_}
-use Rattle.answer.specs.declared.verdict.Fault.{Fault}
-use Rattle.answer.specs.declared.verdict.Fault.the-variants.{Attention}
+use Rattle.answer.specs.Basics.{ℕ, Bool, true, false, not, _&&_, _≡_, if_then_else_}
+use mathlib.Core.Bool.{false≢true}
+use mathlib.Core.Path.{refl, sym, ap, subst, subst⁻¹}
+use Rattle.answer.specs.Types.{Fault, Attention}
 use Rattle.transfer.specs.Phases.{Stop, next}
 use Rattle.transfer.specs.Moves.{Stage, Running, Ended, Fallen, stage, hasFallen, isDecided, unlessFallen, move}
-use Rattle.transfer.specs.declared.limits.Limits.{Limits}
-use Rattle.transfer.specs.declared.lines.Lines.{Lines}
-use Rattle.transfer.specs.declared.phase.Phase.{Phase}
-use Rattle.transfer.specs.declared.phase.Phase.the-variants.{Start, FirstHold, Hold, ReadyToSend, ReadyForData}
-use Rattle.transfer.specs.declared.phase.Phase.the-variants.{Acknowledgement, Acknowledged, SetUp, Valid, Open, Carried}
-use Rattle.transfer.specs.declared.phase.Phase.the-variants.{End, Decided}
+use Rattle.transfer.specs.Types.{Limits, Lines, Phase, Start, FirstHold, Hold, ReadyToSend, ReadyForData, Acknowledgement}
+use Rattle.transfer.specs.Types.{Acknowledged, SetUp, Valid, Open, Carried, End, Decided}
 use Rattle.transfer.proofs.Rows.{settled, lines}
 
 -- The one list of all phases that says which is E and which is a verdict.

@@ -1,8 +1,7 @@
 -- "A verdict carries the deciding tick .. (20: the finish tick; 22: total ticks ..)."
-use Prim.Native.Nat.{ℕ}
-use Rattle.answer.specs.declared.verdict.Fault.{Fault}
-use Rattle.answer.specs.declared.verdict.Verdict.the-variants.{Complete, Cut, Broken}
-use Rattle.transfer.specs.declared.decision.Decision.{Decision}
+use Rattle.answer.specs.Basics.{ℕ}
+use Rattle.answer.specs.Types.{Fault, Complete, Cut, Broken}
+use Rattle.transfer.specs.Types.{Decision}
 
 abbrev pub completeAt : (finish : ℕ) → Decision
 completeAt finish = record { verdict = Complete; tick = finish }

@@ -1,17 +1,8 @@
 -- Demand 3 over tick lists.
-use Prim.Native.Nat.{ℕ, suc, _+_, _≤_, _<_}
-use mathlib.Core.Path.{_≡_}
-use mathlib.Core.Logic.{_↔_}
-use mathlib.Core.Bool.{Bool}
-use mathlib.Core.List.{List, map}
-use Rattle.transfer.specs.Limits.{standardLimits}
-use Rattle.transfer.specs.Outcome.{outcome}
+use Rattle.answer.specs.Basics.{ℕ, suc, _+_, _≤_, _<_, Bool, List, map, _≡_, _↔_}
+use Rattle.transfer.specs.{Types.Limits, Types.Lines, Types.Byte, Limits.standardLimits, Outcome.outcome, Shown.shown}
 use Rattle.transfer.specs.Pair.{SenderPulls, senderPulls, receiverPulls, gives, values, Pair, SameOrLater}
-use Rattle.transfer.specs.Shown.{shown}
-use Rattle.transfer.specs.declared.limits.Limits.{Limits}
-use Rattle.transfer.specs.declared.lines.Lines.{Lines}
-use Rattle.transfer.specs.declared.phase.Byte.{Byte}
-use Rattle.answer.specs.declared.verdict.Verdict.the-variants.{Complete}
+use Rattle.answer.specs.Types.{Complete}
 
 -- What the times have to keep among themselves.
 pub record Consistent (L : Limits) : Type 0 where

@@ -1,17 +1,9 @@
 -- Facts that keep the statements from being empty or wide.
-use Prim.Native.Nat.{ℕ, _≤_, _<_}
-use mathlib.Core.Path.{_≡_}
-use mathlib.Core.Bool.{Bool, true, false}
-use mathlib.Core.List.{List, [], _∷_}
-use lib.ListN.{length}
-use Rattle.transfer.specs.Limits.{standardLimits}
+use Rattle.answer.specs.Basics.{ℕ, _≤_, _<_, Bool, true, false, List, [], _∷_, length, _≡_}
+use Rattle.transfer.specs.{Types.Limits, Types.Byte, Limits.standardLimits, Demand3.Explains, Demand3.Explained, SampleSpans.s1}
+use Rattle.transfer.specs.{Spans.ticks}
 use Rattle.transfer.specs.Parties.{Bit, last, Plan, planBytes}
 use Rattle.transfer.specs.Pair.{SenderPulls, Pair, senderTrack, receiverTrack, gives}
-use Rattle.transfer.specs.Demand3.{Explains, Explained}
-use Rattle.transfer.specs.SampleSpans.{s1}
-use Rattle.transfer.specs.Spans.{ticks}
-use Rattle.transfer.specs.declared.limits.Limits.{Limits}
-use Rattle.transfer.specs.declared.phase.Byte.{Byte}
 
 -- A pair is for one byte or more, each of them below 256.
 abbrev pub AllBytes : List ℕ → Type 0

@@ -1,4 +1,5 @@
 -- What one transfer is: the judge's table, the two parties' rules, and what holds of the two.
+pub mod Types
 pub mod Lines
 pub mod Limits
 pub mod Offsets

@@ -1,19 +1,9 @@
 -- What a tick does, and what the recording comes to where it runs out.
-use Prim.Native.Nat.{ℕ, _+_}
-use mathlib.Core.Bool.{Bool, true, false}
-use Rattle.answer.specs.Choice.{if_then_else_}
-use Rattle.transfer.specs.Phases.{Move, Stop, next}
-use Rattle.transfer.specs.Decisions.{completeAt, cutAt, brokenAt}
-use Rattle.transfer.specs.declared.limits.Limits.{Limits}
-use Rattle.transfer.specs.declared.lines.Lines.{Lines}
-use Rattle.transfer.specs.declared.phase.Byte.{Byte}
-use Rattle.transfer.specs.declared.phase.Phase.{Phase}
-use Rattle.transfer.specs.declared.phase.Phase.the-variants.{Start, FirstHold, Hold, ReadyToSend, ReadyForData}
-use Rattle.transfer.specs.declared.phase.Phase.the-variants.{Acknowledgement, Acknowledged, SetUp, Valid, Open, Carried}
-use Rattle.transfer.specs.declared.phase.Phase.the-variants.{End, Decided}
-use Rattle.transfer.specs.declared.decision.Decision.{Decision}
-use Rattle.answer.specs.declared.verdict.Fault.{Fault}
-use Rattle.answer.specs.declared.verdict.Fault.the-variants.{Attention}
+use Rattle.answer.specs.Basics.{ℕ, _+_, Bool, true, false, if_then_else_}
+use Rattle.transfer.specs.{Phases.Move, Phases.Stop, Phases.next, Decisions.completeAt, Decisions.cutAt, Decisions.brokenAt}
+use Rattle.transfer.specs.Types.{Limits, Lines, Byte, Phase, Start, FirstHold, Hold, ReadyToSend, ReadyForData, Acknowledgement}
+use Rattle.transfer.specs.Types.{Acknowledged, SetUp, Valid, Open, Carried, End, Decided, Decision}
+use Rattle.answer.specs.Types.{Fault, Attention}
 
 -- How far a transfer has come, for whatever asks only that: it is running, the stream is finished, or a verdict has fallen.
 pub data Stage : Type 0 where

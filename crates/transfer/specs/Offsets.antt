@@ -1,7 +1,5 @@
 -- "Offsets count from a phase's first tick, the one that leads into it, which is offset 0."
-use Prim.Native.Nat.{ℕ, _+_}
-use mathlib.Core.Bool.{Bool}
-use lib.Dec.{ltb, leb}
+use Rattle.answer.specs.Basics.{ℕ, _+_, Bool, ltb, leb}
 
 -- The offset of `now` from `since` is below n.
 unfoldable pub below : (n since now : ℕ) → Bool

@@ -1,17 +1,10 @@
 -- The outcome of a tick list: verdict, deciding tick, the bytes handed over and for each its two ledger ticks. "Reading goes from state to
 -- state, one tick after another, and stops for good at the deciding tick."
-use Prim.Native.Nat.{ℕ, suc}
-use mathlib.Core.List.{List, [], _∷_}
+use Rattle.answer.specs.Basics.{ℕ, suc, List, [], _∷_}
+use Rattle.transfer.specs.{Moves.move, Moves.decisionOf, Decisions.brokenAt}
 use Rattle.transfer.specs.Phases.{Move, Go, Hand, Stop}
-use Rattle.transfer.specs.Moves.{move, decisionOf}
-use Rattle.transfer.specs.Decisions.{brokenAt}
-use Rattle.transfer.specs.declared.limits.Limits.{Limits}
-use Rattle.transfer.specs.declared.lines.Lines.{Lines}
-use Rattle.transfer.specs.declared.phase.Byte.{Byte}
-use Rattle.transfer.specs.declared.phase.Phase.{Phase}
-use Rattle.transfer.specs.declared.phase.Phase.the-variants.{Start}
-use Rattle.transfer.specs.declared.decision.Decision.{Decision}
-use Rattle.answer.specs.declared.verdict.Fault.{Fault}
+use Rattle.transfer.specs.Types.{Limits, Lines, Byte, Phase, Start, Decision}
+use Rattle.answer.specs.Types.{Fault}
 
 -- A verdict with its deciding tick, and the ledger: each byte handed over with its two ticks.
 pub record Outcome : Type 0 where

@@ -1,13 +1,7 @@
 -- A pair of a sender and a receiver for a string, what it gives, and its two ticks for each byte.
-use Prim.Native.Nat.{ℕ, _≤_}
-use mathlib.Core.Path.{_≡_}
-use mathlib.Core.Bool.{Bool, false, _||_}
-use mathlib.Core.List.{List, [], _∷_, map}
+use Rattle.answer.specs.Basics.{ℕ, _≤_, Bool, false, _||_, List, [], _∷_, map, _≡_}
+use Rattle.transfer.specs.{Types.Limits, Types.Lines, Types.Byte, Rules.PlanRules}
 use Rattle.transfer.specs.Parties.{Pulls, pulls, Plan, track, planBytes}
-use Rattle.transfer.specs.Rules.{PlanRules}
-use Rattle.transfer.specs.declared.limits.Limits.{Limits}
-use Rattle.transfer.specs.declared.lines.Lines.{Lines}
-use Rattle.transfer.specs.declared.phase.Byte.{Byte}
 
 -- A sender track has CLK and DATA pulls at each tick, a receiver track DATA pulls.
 pub record SenderPulls : Type 0 where

@@ -1,12 +1,7 @@
 -- "The two parties' own rules" of document 01: what a sender and a receiver choose, and the tracks that this makes.
 -- Nothing here comes from the judge's phases: the two share the times, what a tick shows and the ledger's record alone.
-use Prim.Native.Nat.{ℕ, zero, suc, _+_}
-use mathlib.Core.Bool.{Bool, true, false}
-use mathlib.Core.List.{List, [], _∷_, _++_, map}
-use lib.Dec.{ltb, leb}
-use lib.ListN.{length, replicate}
-use Rattle.answer.specs.Choice.{if_then_else_}
-use Rattle.transfer.specs.declared.phase.Byte.{Byte}
+use Rattle.answer.specs.Basics.{ℕ, zero, suc, _+_, Bool, true, false, List, [], _∷_, _++_, map, length, replicate, ltb, leb, if_then_else_}
+use Rattle.transfer.specs.Types.{Byte}
 
 -- One tick of both tracks: the sender's CLK and DATA pulls, the receiver's DATA pull.
 pub data Pulls : Type 0 where

@@ -1,23 +1,13 @@
 -- "The judge's phases" of document 01: what a tick with ATN released does in each phase, row by row, in the paper's order.
 -- Lines stand as (CLK, DATA), true when pulled; `now` is the tick. A clause below is a row there; where a row has two
 -- answers by the time, the clause has an `if`. `L` holds the times.
-use Prim.Native.Nat.{ℕ, zero, suc, _+_, _/_}
-use mathlib.Core.Bool.{Bool, true, false, not}
-use lib.Dec.{eqb}
-use Rattle.answer.specs.Choice.{if_then_else_}
+use Rattle.answer.specs.Basics.{ℕ, zero, suc, _+_, _/_, Bool, true, false, not, eqb, if_then_else_}
 use Rattle.transfer.specs.Offsets.{below, upTo}
-use Rattle.transfer.specs.declared.limits.Limits.{Limits}
-use Rattle.transfer.specs.declared.phase.Byte.{Byte}
-use Rattle.transfer.specs.declared.phase.Phase.{Phase}
-use Rattle.transfer.specs.declared.phase.Phase.the-variants.{Start, FirstHold, Hold, ReadyToSend, ReadyForData}
-use Rattle.transfer.specs.declared.phase.Phase.the-variants.{Acknowledgement, Acknowledged, SetUp, Valid, Open, Carried}
-use Rattle.transfer.specs.declared.phase.Phase.the-variants.{End, Decided}
-use Rattle.answer.specs.declared.verdict.Fault.{Fault}
-use Rattle.answer.specs.declared.verdict.Fault.the-variants.{EmptyStream, NoReceiver, BadStart, OutOfTurn}
-use Rattle.answer.specs.declared.verdict.Fault.the-variants.{EndMarkNotAcknowledged, AcknowledgementShort}
-use Rattle.answer.specs.declared.verdict.Fault.the-variants.{AcknowledgementLong, LateClock, SenderTimeout}
-use Rattle.answer.specs.declared.verdict.Fault.the-variants.{ValidTimeShort, DataMoved, ClockStall, ReceiverTimeout}
-use Rattle.answer.specs.declared.verdict.Fault.the-variants.{Hurried, MovedAfterEnd}
+use Rattle.transfer.specs.Types.{Limits, Byte, Phase, Start, FirstHold, Hold, ReadyToSend, ReadyForData, Acknowledgement}
+use Rattle.transfer.specs.Types.{Acknowledged, SetUp, Valid, Open, Carried, End, Decided}
+use Rattle.answer.specs.Types.{Fault, EmptyStream, NoReceiver, BadStart, OutOfTurn, EndMarkNotAcknowledged, AcknowledgementShort}
+use Rattle.answer.specs.Types.{AcknowledgementLong, LateClock, SenderTimeout, ValidTimeShort, DataMoved, ClockStall, ReceiverTimeout}
+use Rattle.answer.specs.Types.{Hurried, MovedAfterEnd}
 
 -- What one tick does: go to a phase or stay in it, hand a byte over and go to a phase, or decide.
 pub data Move : Type 0 where

@@ -1,10 +1,6 @@
 -- The room law: a byte takes at least nineteen steps, or spans of equal lines.
-use Prim.Native.Nat.{_*_, _≤_, _<_}
-use mathlib.Core.List.{List}
-use lib.ListN.{length}
-use Rattle.transfer.specs.Outcome.{outcome}
-use Rattle.transfer.specs.Spans.{Span, ticks}
-use Rattle.transfer.specs.declared.limits.Limits.{Limits}
+use Rattle.answer.specs.Basics.{_*_, _≤_, _<_, List, length}
+use Rattle.transfer.specs.{Types.Limits, Outcome.outcome, Spans.Span, Spans.ticks}
 
 pub record Room (L : Limits) (spans : List Span) : Type 0 where
   pub nineteen : 19 * length (outcome L (ticks spans) .bytes) ≤ length spans

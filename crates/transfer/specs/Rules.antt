@@ -1,12 +1,8 @@
 -- The rules that both parties keep: the bullets of "The two parties' own rules", in their order, and then what they ask of a byte,
 -- of a sending and of a plan. "Every change is dated by the first tick that shows it."
-use Prim.Native.Nat.{ℕ, suc, _+_, _≤_, _<_}
-use mathlib.Core.Path.{_≡_}
-use mathlib.Core.Bool.{Bool, false}
-use mathlib.Core.List.{List, [], _∷_, map}
-use lib.ListN.{length}
+use Rattle.answer.specs.Basics.{ℕ, suc, _+_, _≤_, _<_, Bool, false, List, [], _∷_, map, length, _≡_}
+use Rattle.transfer.specs.Types.{Limits}
 use Rattle.transfer.specs.Parties.{Bit, Frame, Sending, more, last, Plan}
-use Rattle.transfer.specs.declared.limits.Limits.{Limits}
 
 -- The last of d and what follows it.
 abbrev pub lastOf : Bool → List Bool → Bool

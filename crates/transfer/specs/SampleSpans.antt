@@ -1,8 +1,6 @@
 -- Recordings written out as spans, and document 01's S1 so.
-use Prim.Native.Nat.{ℕ, _+_}
-use mathlib.Core.List.{List, [], _∷_, _++_}
-use Rattle.transfer.specs.Lines.{linesOf}
-use Rattle.transfer.specs.Spans.{Span}
+use Rattle.answer.specs.Basics.{ℕ, _+_, List, [], _∷_, _++_}
+use Rattle.transfer.specs.{Lines.linesOf, Spans.Span}
 
 -- `d ∶ b` is a span of duration d that shows the line byte b: 1 is ATN, 2 CLK, 4 DATA.
 infix 90 _∶_

@@ -1,12 +1,6 @@
 -- The shown pair: "read off the recording and the ledger".
-use Prim.Native.Nat.{ℕ, suc}
-use mathlib.Core.Bool.{Bool, true, false}
-use mathlib.Core.List.{List, [], _∷_}
-use lib.Dec.{ltb}
-use Rattle.answer.specs.Choice.{if_then_else_}
-use Rattle.transfer.specs.Parties.{Pulls, pulls}
-use Rattle.transfer.specs.declared.lines.Lines.{Lines}
-use Rattle.transfer.specs.declared.phase.Byte.{Byte}
+use Rattle.answer.specs.Basics.{ℕ, suc, Bool, true, false, List, [], _∷_, ltb, if_then_else_}
+use Rattle.transfer.specs.{Types.Lines, Types.Byte, Parties.Pulls, Parties.pulls}
 
 -- Whose turn on DATA it is, with the bytes of the ledger that are left: the receiver's, while CLK is not yet released since
 -- tick 0 or since the byte before; the receiver's, with CLK released since; the sender's, within a byte.

@@ -1,8 +1,6 @@
 -- Ticks in spans of equal lines, as the steps of a recording show them.
-use Prim.Native.Nat.{ℕ}
-use mathlib.Core.List.{List, [], _∷_, _++_}
-use lib.ListN.{replicate}
-use Rattle.transfer.specs.declared.lines.Lines.{Lines}
+use Rattle.answer.specs.Basics.{ℕ, List, [], _∷_, _++_, replicate}
+use Rattle.transfer.specs.Types.{Lines}
 
 -- So many ticks that show the same lines.
 pub record Span : Type 0 where

@@ -1,13 +1,8 @@
 -- A number in decimal, digit by digit. Assumes nothing.
-use Prim.Native.Nat.{ℕ, zero, suc, _/_, _%_, _^_, _<_, _≤_}
-use mathlib.Core.Bool.{Bool, true, false}
-use mathlib.Core.List.{List, [], _∷_, _++_}
-use mathlib.Core.Path.{_≡_, refl, ap}
-use native.Mathlib.Nat.{pow-suc}
-use native.Mathlib.Omega.{arith}
-use lib.Dec.{ltb}
+use Rattle.answer.specs.Basics.{ℕ, zero, suc, _/_, _%_, _^_, _≤_, _<_, Bool, true, false, List, [], _∷_, _++_, _≡_, ltb, if_then_else_}
+use mathlib.Core.Path.{refl, ap}
+use native.Mathlib.{Nat.pow-suc, Omega.arith}
 use borrow.Author.Tests.{lt-ltb, le-ltb}
-use Rattle.answer.specs.Choice.{if_then_else_}
 use Rattle.vcd.specs.Text.{digit, decimalIn, decimal}
 
 -- Where so many digits are enough, one more changes nothing.

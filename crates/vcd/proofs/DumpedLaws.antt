@@ -1,23 +1,15 @@
 -- What the entry gives, case by case. Assumes nothing.
-use Prim.Native.Nat.{ℕ, _<_}
-use mathlib.Core.List.{List}
-use mathlib.Core.Path.{_≡_, sym, ap, ap₂, _∙_}
+use Rattle.answer.specs.Basics.{ℕ, _<_, List, length, drop, _≡_}
+use mathlib.Core.Path.{sym, ap, ap₂, _∙_}
 use native.Mathlib.Omega.{arith}
-use lib.ListN.{length, drop, length-take, length-drop}
-use Rattle.answer.specs.Answers.{refused, accepted}
-use Rattle.answer.specs.declared.Answer.{Answer}
-use Rattle.recording.specs.Form.{formOf}
-use Rattle.recording.specs.Ticks.{stepsOf}
-use Rattle.recording.specs.declared.form.Form.the-variants.{Good, Refused}
-use Rattle.answer.specs.declared.refusal.Refusal.{Refusal}
-use Rattle.recording.proofs.GoodFormLaws.{good-form}
-use Rattle.recording.proofs.StepLaws.{steps-count}
-use Rattle.vcd.specs.Dump.{dump}
+use lib.ListN.{length-take, length-drop}
+use Rattle.answer.specs.{Types.Answer, Types.Refusal, Answers.refused, Answers.accepted}
+use Rattle.recording.specs.{Types.Good, Types.Refused, Form.formOf, Ticks.stepsOf}
+use Rattle.recording.proofs.{GoodFormLaws.good-form, StepLaws.steps-count}
+use Rattle.vcd.specs.{Dump.dump, Put.held, Put.windowAt, Put.Puts}
 use Rattle.vcd.specs.Dumped.{leaves, piece, leavesPiece, dumpedInForm, dumped}
-use Rattle.vcd.specs.Put.{held, windowAt, Puts}
 use Rattle.vcd.specs.declared.window.Window.{Window}
-use Rattle.vcd.proofs.LengthLaws.{dump-length}
-use Rattle.vcd.proofs.WindowLaws.{through}
+use Rattle.vcd.proofs.{LengthLaws.dump-length, WindowLaws.through}
 
 module _ (file : List ℕ) (offset : ℕ) (d : List ℕ) where
   pub is-refused : (refusal : Refusal) (step : ℕ) → formOf file ≡ Refused refusal step

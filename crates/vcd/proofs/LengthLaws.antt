@@ -1,15 +1,9 @@
 -- How long a dump can be. Assumes nothing.
-use Prim.Native.Nat.{ℕ, zero, suc, _+_, _*_, _/_, _≤_}
-use mathlib.Core.Bool.{Bool, true, false}
-use mathlib.Core.List.{List, [], _∷_}
+use Rattle.answer.specs.Basics.{ℕ, zero, suc, _+_, _*_, _/_, _≤_, Bool, true, false, List, [], _∷_, length, eqb, ltb, if_then_else_}
 use native.Mathlib.Omega.{arith}
-use lib.Dec.{ltb, eqb}
-use lib.ListN.{length, length-append}
-use Rattle.answer.specs.Choice.{if_then_else_}
-use Rattle.recording.specs.Ticks.{totalTicks}
-use Rattle.recording.specs.declared.step.Step.{Step}
-use Rattle.vcd.specs.Text.{decimalIn}
-use Rattle.vcd.specs.Wires.{bitOf, valueText, changeText}
+use lib.ListN.{length-append}
+use Rattle.recording.specs.{Types.Step, Ticks.totalTicks}
+use Rattle.vcd.specs.{Text.decimalIn, Wires.bitOf, Wires.valueText, Wires.changeText}
 use Rattle.vcd.specs.Dump.{heading, timeText, stepText, laterText, stepsText, dump}
 use Rattle.vcd.specs.declared.wires.Wire.{Wire}
 use Rattle.vcd.specs.declared.wires.Wire.the-variants.{Atn, Clk, Data, Srq}

@@ -1,15 +1,11 @@
 -- The pieces that a caller asks for one after another are the dump. Assumes nothing.
-use Prim.Native.Nat.{ℕ, zero, suc, _+_}
-use mathlib.Core.List.{List, [], _∷_, _++_}
-use mathlib.Core.Path.{_≡_, refl, sym, ap, ap₂, subst⁻¹, _∙_}
+use Rattle.answer.specs.Basics.{ℕ, zero, suc, List, [], _∷_, _++_, length, take, drop, _≡_}
+use mathlib.Core.Path.{refl, sym, ap, ap₂, subst⁻¹, _∙_}
 use native.Mathlib.Omega.{arith}
-use lib.ListN.{length, take, drop, length-take, length-drop}
-use lib.Seq.{drop-drop, take-append-seam}
+use lib.{ListN.length-take, ListN.length-drop, Seq.drop-drop, Seq.take-append-seam}
 use Rattle.recording.specs.Ticks.{stepsOf}
 use Rattle.recording.proofs.GoodFormLaws.{good-form}
-use Rattle.vcd.specs.Dump.{dump}
-use Rattle.vcd.specs.Dumped.{piece, leavesPiece}
-use Rattle.vcd.specs.Pieces.{Piece, PiecesLaw}
+use Rattle.vcd.specs.{Dump.dump, Dumped.piece, Dumped.leavesPiece, Pieces.Piece, Pieces.PiecesLaw}
 use Rattle.vcd.proofs.DumpedLaws.{is-piece}
 
 -- What was taken, and what is left.

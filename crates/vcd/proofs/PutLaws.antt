@@ -1,10 +1,8 @@
 -- How texts are put down one after another. Assumes nothing.
-use Prim.Native.Nat.{ℕ, suc, _+_, _<_, _≤_}
-use mathlib.Core.List.{List, [], _∷_, _++_}
-use mathlib.Core.Path.{_≡_, refl, sym, ap, _∙_}
+use Rattle.answer.specs.Basics.{ℕ, suc, _+_, _≤_, _<_, List, [], _∷_, _++_, length, drop, getD, _≡_}
+use mathlib.Core.Path.{refl, sym, ap, _∙_}
 use native.Mathlib.Numerals.{add-one}
-use lib.ListN.{length, getD, drop, drop-of-length-le}
-use lib.Seq.{drop-cons}
+use lib.{ListN.drop-of-length-le, Seq.drop-cons}
 use Rattle.vcd.specs.Put.{Held, putByte, put, Puts}
 
 put-append : (a b : List ℕ) (h : Held) → put (a ++ b) h ≡ put b (put a h)

@@ -1,17 +1,12 @@
 -- The text of a recording's steps, a step at a time, for a loop at step i of n. Assumes nothing.
-use Prim.Native.Nat.{ℕ, _+_, _-_, _<_, _≤_}
-use mathlib.Core.List.{List, [], _++_}
-use mathlib.Core.Path.{_≡_, sym, ap, _∙_}
+use Rattle.answer.specs.Basics.{ℕ, _+_, _-_, _≤_, _<_, List, [], _++_, _≡_}
+use mathlib.Core.Path.{sym, ap, _∙_}
 use native.Mathlib.Nat.{sub-zero}
-use Rattle.recording.specs.GoodForm.{GoodForm}
-use Rattle.recording.specs.Layout.{headerAt, stepAt}
+use Rattle.recording.specs.{Types.Header, Types.Step, GoodForm.GoodForm, Layout.headerAt, Layout.stepAt}
 use Rattle.recording.specs.Ticks.{stepsFrom, stepsOf, totalTicks, ticksOf}
-use Rattle.recording.specs.declared.header.Header.{Header}
-use Rattle.recording.specs.declared.step.Step.{Step}
 use Rattle.recording.proofs.StepLaws.{steps-begin, steps-end, total-counts}
+use Rattle.vcd.specs.{Put.Held, Put.put, Put.Puts, Wires.valueText, Wires.eachWire}
 use Rattle.vcd.specs.Dump.{heading, timeText, stepText, laterText, stepsText, dump}
-use Rattle.vcd.specs.Put.{Held, put, Puts}
-use Rattle.vcd.specs.Wires.{valueText, eachWire}
 use Rattle.vcd.proofs.PutLaws.{goes-on}
 
 module _ (file : List ℕ) (i n before tick : ℕ) where

@@ -1,12 +1,9 @@
 -- A text that is put down through a window leaves the piece of it that lies there. Assumes nothing.
-use Prim.Native.Nat.{ℕ, zero, suc, _+_, _-_, _≤_}
-use mathlib.Core.List.{List, [], _∷_}
-use mathlib.Core.Path.{_≡_, ap, _∙_}
-use native.Mathlib.Nat.{add-zero, zero-add, sub-zero}
-use native.Mathlib.Numerals.{add-one}
-use native.Mathlib.Omega.{arith}
+use Rattle.answer.specs.Basics.{ℕ, zero, suc, _+_, _-_, _≤_, List, [], _∷_, length, take, drop, set, _≡_}
+use mathlib.Core.Path.{ap, _∙_}
+use native.Mathlib.{Nat.add-zero, Nat.zero-add, Nat.sub-zero, Numerals.add-one, Omega.arith}
 use borrow.Author.Tests.{lt-ltb, le-ltb}
-use lib.ListN.{length, take, drop, set, length-set, length-take}
+use lib.ListN.{length-set, length-take}
 use lib.Seq.{take-nil, drop-nil, sets, sets-eq}
 use Rattle.answer.specs.Lent.{_over_}
 use Rattle.vcd.specs.Dumped.{piece}

@@ -1,13 +1,8 @@
 -- The text of a Value Change Dump (IEEE 1364) of a recording's steps. One tick is 1 µs.
 use Prim.Native.Char.{code}
-use Prim.Native.Nat.{ℕ, _+_}
-use mathlib.Core.List.{List, [], _∷_, _++_}
-use lib.Dec.{eqb}
-use Rattle.answer.specs.Choice.{if_then_else_}
-use Rattle.recording.specs.Ticks.{totalTicks}
-use Rattle.recording.specs.declared.step.Step.{Step}
-use Rattle.vcd.specs.Text.{newline, inLines, decimal}
-use Rattle.vcd.specs.Wires.{valueText, changeText, eachWire}
+use Rattle.answer.specs.Basics.{ℕ, _+_, List, [], _∷_, _++_, eqb, if_then_else_}
+use Rattle.recording.specs.{Types.Step, Ticks.totalTicks}
+use Rattle.vcd.specs.{Text.newline, Text.inLines, Text.decimal, Wires.valueText, Wires.changeText, Wires.eachWire}
 
 -- The declarations: the timescale, and a wire of one bit for each line with its identifier.
 unfoldable pub heading : List ℕ

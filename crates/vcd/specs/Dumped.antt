@@ -1,14 +1,7 @@
 -- What the entry answers and leaves, for any bytes, any offset and any destination.
-use Prim.Native.Nat.{ℕ}
-use mathlib.Core.List.{List}
-use lib.ListN.{length, drop}
-use Rattle.answer.specs.Answers.{refused, accepted}
-use Rattle.answer.specs.Lent.{_over_, first}
-use Rattle.answer.specs.declared.Answer.{Answer}
-use Rattle.recording.specs.Form.{formOf}
-use Rattle.recording.specs.Ticks.{stepsOf}
-use Rattle.recording.specs.declared.form.Form.{Form}
-use Rattle.recording.specs.declared.form.Form.the-variants.{Good, Refused}
+use Rattle.answer.specs.Basics.{ℕ, List, length, drop}
+use Rattle.answer.specs.{Types.Answer, Answers.refused, Answers.accepted, Lent._over_, Lent.first}
+use Rattle.recording.specs.{Types.Form, Types.Good, Types.Refused, Form.formOf, Ticks.stepsOf}
 use Rattle.vcd.specs.Dump.{dump}
 
 -- What the entry leaves: an answer, and the destination.

@@ -1,14 +1,8 @@
 -- The pieces that a caller asks for one after another are the dump.
-use Prim.Native.Nat.{ℕ, _+_, _≤_}
-use mathlib.Core.List.{List, _++_}
-use mathlib.Core.Logic.{_↔_}
-use mathlib.Core.Path.{_≡_}
-use lib.ListN.{length, drop}
+use Rattle.answer.specs.Basics.{ℕ, _+_, _≤_, List, _++_, length, drop, _≡_, _↔_}
 use Rattle.answer.specs.Lent.{first}
-use Rattle.recording.specs.GoodForm.{GoodForm}
-use Rattle.recording.specs.Ticks.{stepsOf}
-use Rattle.vcd.specs.Dump.{dump}
-use Rattle.vcd.specs.Dumped.{Dumped, dumped}
+use Rattle.recording.specs.{GoodForm.GoodForm, Ticks.stepsOf}
+use Rattle.vcd.specs.{Dump.dump, Dumped.Dumped, Dumped.dumped}
 
 -- What one call leaves: the piece that it put down, followed by the text from where it ends, is the text from the offset on; and with
 -- room for a byte it puts none down only at the text's end.

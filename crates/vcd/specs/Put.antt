@@ -1,11 +1,6 @@
 -- How a text is put down: byte after byte, into a window that begins some bytes on and is as long as the destination. The functions
 -- below the entry promise this to one another; what the entry promises is in specs/Dumped.antt.
-use Prim.Native.Nat.{ℕ, _+_, _-_}
-use mathlib.Core.List.{List, [], _∷_}
-use mathlib.Core.Path.{_≡_}
-use lib.Dec.{ltb}
-use lib.ListN.{length, set}
-use Rattle.answer.specs.Choice.{if_then_else_}
+use Rattle.answer.specs.Basics.{ℕ, _+_, _-_, List, [], _∷_, length, set, _≡_, ltb, if_then_else_}
 use Rattle.vcd.specs.declared.window.Window.{Window}
 
 -- A window, and the destination behind it.

@@ -1,10 +1,7 @@
 -- A recording worked out by hand: (1,1) for 200 ticks, (0,1) for 50 and again for 25, and (0,0) with ATN and SRQ for 100.
-use Prim.Native.Nat.{ℕ}
-use mathlib.Core.List.{List, [], _∷_, _++_}
-use mathlib.Core.Path.{_≡_}
-use Rattle.recording.specs.declared.step.Step.{Step}
-use Rattle.vcd.specs.Dump.{heading, dump}
-use Rattle.vcd.specs.Text.{inLines}
+use Rattle.answer.specs.Basics.{ℕ, List, [], _∷_, _++_, _≡_}
+use Rattle.recording.specs.Types.{Step}
+use Rattle.vcd.specs.{Dump.heading, Dump.dump, Text.inLines}
 
 abbrev step : (duration lines : ℕ) → Step
 step duration lines = record { duration = duration; lines = lines; last = 0 }

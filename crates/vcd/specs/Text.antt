@@ -1,10 +1,7 @@
 -- Text as bytes.
 use Prim.Native.Char.{code}
-use Prim.Native.Nat.{ℕ, zero, suc, _+_, _/_, _%_}
+use Rattle.answer.specs.Basics.{ℕ, zero, suc, _+_, _/_, _%_, List, [], _∷_, _++_, ltb, if_then_else_}
 use Prim.Native.String.{String}
-use mathlib.Core.List.{List, [], _∷_, _++_}
-use lib.Dec.{ltb}
-use Rattle.answer.specs.Choice.{if_then_else_}
 use Rattle.answer.specs.Text.{ascii}
 
 abbrev pub newline : ℕ

@@ -1,9 +1,6 @@
 -- The four wires of a dump.
 use Prim.Native.Char.{code}
-use Prim.Native.Nat.{ℕ, _/_, _%_}
-use mathlib.Core.List.{List, [], _∷_, _++_}
-use lib.Dec.{eqb}
-use Rattle.answer.specs.Choice.{if_then_else_}
+use Rattle.answer.specs.Basics.{ℕ, _/_, _%_, List, [], _∷_, _++_, eqb, if_then_else_}
 use Rattle.vcd.specs.declared.wires.Wire.{Wire}
 use Rattle.vcd.specs.declared.wires.Wire.the-variants.{Atn, Clk, Data, Srq}
 use Rattle.vcd.specs.Text.{newline}

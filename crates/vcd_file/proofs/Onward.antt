@@ -1,20 +1,13 @@
 -- A piece of a dump lies within its destination, and the offset after it is still a number of 32 bits. Assumes nothing.
-use Prim.Native.Nat.{ℕ, _+_, _<_, _≤_}
-use mathlib.Core.List.{List}
-use mathlib.Core.Path.{_≡_, refl, sym, ap, _∙_}
+use Rattle.answer.specs.Basics.{ℕ, _+_, _≤_, _<_, List, length, drop, _≡_}
+use mathlib.Core.Path.{refl, ap, _∙_}
 use native.Mathlib.Omega.{arith}
-use lib.ListN.{length, drop, length-take, length-drop}
-use Rattle.answer.specs.declared.Answer.{Answer}
-use Rattle.recording.specs.Form.{formOf}
-use Rattle.recording.specs.Ticks.{stepsOf}
-use Rattle.recording.specs.declared.form.Form.{Form}
-use Rattle.recording.specs.declared.form.Form.the-variants.{Good, Refused}
-use Rattle.recording.proofs.GoodFormLaws.{good-form}
-use Rattle.recording.proofs.StepLaws.{steps-count}
-use Rattle.vcd.specs.Dump.{dump}
-use Rattle.vcd.specs.Dumped.{Dumped, leaves, dumped}
-use Rattle.vcd.proofs.DumpedLaws.{is-refused, is-piece}
-use Rattle.vcd.proofs.LengthLaws.{dump-length}
+use lib.ListN.{length-take, length-drop}
+use Rattle.answer.specs.Types.{Answer}
+use Rattle.recording.specs.{Types.Form, Types.Good, Types.Refused, Form.formOf, Ticks.stepsOf}
+use Rattle.recording.proofs.{GoodFormLaws.good-form, StepLaws.steps-count}
+use Rattle.vcd.specs.{Dump.dump, Dumped.Dumped, Dumped.leaves, Dumped.dumped}
+use Rattle.vcd.proofs.{DumpedLaws.is-refused, DumpedLaws.is-piece, LengthLaws.dump-length}
 
 pub record Onward (offset count room : ℕ) : Type 0 where
   pub within : count ≤ room

@@ -1,19 +1,11 @@
 -- What the writer counts lies within the destination. Assumes nothing.
-use Prim.Native.Nat.{ℕ, _≤_}
-use mathlib.Core.Bool.{Bool, true, false}
-use mathlib.Core.Path.{_≡_, refl, ap, sym}
-use mathlib.Core.List.{List}
+use Rattle.answer.specs.Basics.{ℕ, _≤_, Bool, true, false, List, length, _≡_, ltb, if_then_else_}
+use mathlib.Core.Path.{refl, ap, sym}
 use native.Mathlib.Omega.{arith}
-use lib.Dec.{ltb}
-use lib.ListN.{length}
 use borrow.Author.Tests.{ltb-false}
-use Rattle.answer.specs.declared.Answer.{Answer}
-use Rattle.answer.specs.declared.refusal.Refusal.the-variants.{TooManyBytes, ShortDestination}
-use Rattle.answer.specs.Answers.{refused, accepted}
-use Rattle.answer.specs.Choice.{if_then_else_}
-use Rattle.writer.specs.Written.{mostBytes, writtenLength, recordingOf, Written, leaves, written}
-use Rattle.answer.specs.Lent.{_over_}
+use Rattle.answer.specs.{Types.Answer, Types.TooManyBytes, Types.ShortDestination, Answers.refused, Answers.accepted, Lent._over_}
 use Rattle.writer.specs.Card.{standardCard}
+use Rattle.writer.specs.Written.{mostBytes, writtenLength, recordingOf, Written, leaves, written}
 
 chosen : (many short : Bool) (length room : ℕ) (d e : List ℕ) → short ≡ ltb room length
     → (if many then leaves (refused TooManyBytes 0) d

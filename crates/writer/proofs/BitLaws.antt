@@ -1,11 +1,8 @@
 -- The steps of a value's bits, two at a time, for a loop at bit k of eight. Assumes nothing.
-use Prim.Native.Nat.{ℕ, zero, suc, _+_, _-_, _*_, _/_, _%_, _<_}
-use mathlib.Core.List.{List, [], _∷_}
-use mathlib.Core.Path.{_≡_, refl, sym, ap, _∙_}
+use Rattle.answer.specs.Basics.{ℕ, zero, suc, _+_, _-_, _*_, _/_, _%_, _<_, List, [], _∷_, length, _≡_}
+use mathlib.Core.Path.{refl, sym, ap, _∙_}
 use native.Mathlib.Omega.{arith}
-use lib.ListN.{length}
-use Rattle.writer.specs.WrittenSteps.{shows, bitSteps}
-use Rattle.writer.specs.Put.{withSteps, Put}
+use Rattle.writer.specs.{WrittenSteps.shows, WrittenSteps.bitSteps, Put.withSteps, Put.Put}
 use Rattle.writer.specs.declared.card.Card.{Card}
 use Rattle.writer.proofs.PieceLaws.{goes-on, and-then, no-steps}
 

@@ -1,12 +1,11 @@
 -- The pieces of a byte, and how many steps they are. Assumes nothing.
-use Prim.Native.Nat.{ℕ, _+_}
-use mathlib.Core.List.{List, [], _++_}
-use mathlib.Core.Path.{_≡_, refl, _∙_}
+use Rattle.answer.specs.Basics.{ℕ, _+_, List, [], _++_, length, _≡_}
+use mathlib.Core.Path.{refl, _∙_}
 use native.Mathlib.Omega.{arith}
-use lib.ListN.{length, length-append}
-use Rattle.recording.specs.declared.step.Step.{Step}
-use Rattle.writer.specs.WrittenSteps.{byteSteps, endGap, closing, sentSteps, opening, valueSteps}
+use lib.ListN.{length-append}
+use Rattle.recording.specs.Types.{Step}
 use Rattle.writer.specs.Put.{Put}
+use Rattle.writer.specs.WrittenSteps.{byteSteps, endGap, closing, sentSteps, opening, valueSteps}
 use Rattle.writer.specs.declared.card.Card.{Card}
 use Rattle.writer.proofs.BitLaws.{bits-count}
 

@@ -1,15 +1,10 @@
 -- Steps put down one after another are one list of steps. Assumes nothing.
-use Prim.Native.Nat.{ℕ, _+_}
-use mathlib.Core.List.{List, [], _∷_, _++_, append-nil}
-use mathlib.Core.Path.{_≡_, refl, sym, _∙_}
+use Rattle.answer.specs.Basics.{ℕ, _+_, List, [], _∷_, _++_, length, _≡_}
+use mathlib.Core.{List.append-nil, Path.refl, Path.sym, Path._∙_}
 use native.Mathlib.Omega.{arith}
-use lib.ListN.{length, length-append}
-use lib.Seq.{sets}
-use Rattle.recording.specs.Layout.{stepPlace}
-use Rattle.recording.specs.FileOf.{stepBytes, stepsBytes}
-use Rattle.recording.specs.declared.step.Step.{Step}
-use Rattle.recording.proofs.SetsLaws.{sets-append}
-use Rattle.recording.proofs.FileOfLaws.{steps-append, steps-length}
+use lib.{ListN.length-append, Seq.sets}
+use Rattle.recording.specs.{Types.Step, Layout.stepPlace, FileOf.stepBytes, FileOf.stepsBytes}
+use Rattle.recording.proofs.{SetsLaws.sets-append, FileOfLaws.steps-append, FileOfLaws.steps-length}
 use Rattle.writer.specs.Put.{withSteps, Put}
 
 -- One step, as `Step::write` puts it down.

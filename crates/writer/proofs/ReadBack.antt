@@ -1,29 +1,17 @@
 -- Demand 2: what the writer put down is read back. Assumes nothing.
-use Prim.Native.Nat.{ℕ, _≤_}
-use mathlib.Core.List.{List, [], _∷_}
+use Rattle.answer.specs.Basics.{ℕ, _≤_, List, [], _∷_, length}
 use mathlib.Core.Path.{refl, sym, ap, subst⁻¹, _∙_}
 use native.Mathlib.Omega.{arith}
-use lib.ListN.{length}
-use Rattle.answer.specs.Lent.{_over_}
-use Rattle.recording.specs.FileOf.{FileOf}
-use Rattle.recording.specs.GoodForm.{Bytes}
-use Rattle.recording.specs.Ticks.{stepsOf}
-use Rattle.recording.specs.declared.step.Step.{Step}
-use Rattle.recording.proofs.FileOfLaws.{file-of, file-length}
-use Rattle.recording.proofs.GoodFormLaws.{good-form}
-use Rattle.transfer.specs.Limits.{standardLimits}
-use Rattle.transfer.specs.Outcome.{Outcome, outcome}
-use Rattle.answer.specs.Numbers.{verdictNumber}
+use Rattle.answer.specs.{Lent._over_, Numbers.verdictNumber}
+use Rattle.recording.specs.{Types.Step, FileOf.FileOf, GoodForm.Bytes, Ticks.stepsOf}
+use Rattle.recording.proofs.{FileOfLaws.file-of, FileOfLaws.file-length, GoodFormLaws.good-form}
+use Rattle.transfer.specs.{Limits.standardLimits, Outcome.Outcome, Outcome.outcome}
 use Rattle.judge.specs.Judged.{tickLines, verdictLeaves}
-use Rattle.judge.proofs.JudgedLaws.{is-verdict}
-use Rattle.judge.proofs.LedgerLists.{length-values}
-use Rattle.writer.specs.Card.{standardCard}
-use Rattle.writer.specs.ReadBack.{ReadAs, ReadBackLaw}
-use Rattle.writer.specs.Written.{mostBytes, recordingOf, CountedLaw}
-use Rattle.writer.specs.WrittenSteps.{writtenSteps}
-use Rattle.writer.proofs.SentComplete.{writtenLines, sent-complete, empty-outcome}
-use Rattle.writer.proofs.StringLaws.{written-count}
-use Rattle.writer.proofs.WrittenRecordable.{written-recordable}
+use Rattle.judge.proofs.{JudgedLaws.is-verdict, LedgerLists.length-values}
+use Rattle.writer.specs.{Card.standardCard, ReadBack.ReadAs, ReadBack.ReadBackLaw, Written.mostBytes, Written.recordingOf}
+use Rattle.writer.specs.{Written.CountedLaw, WrittenSteps.writtenSteps}
+use Rattle.writer.proofs.{SentComplete.writtenLines, SentComplete.sent-complete, SentComplete.empty-outcome}
+use Rattle.writer.proofs.{StringLaws.written-count, WrittenRecordable.written-recordable}
 
 -- A verdict over the ticks that are put down for a string, with exactly its bytes.
 read-string : (steps : List Step) (string : List ℕ) → Bytes string → (bytes ledger : List ℕ)

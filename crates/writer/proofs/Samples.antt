@@ -1,9 +1,8 @@
 -- The writer's samples hold, by computation. Assumes nothing.
 use mathlib.Core.Path.{refl}
-use Rattle.recording.specs.FileOf.{headerBytes, stepBytes, stepsBytes, fileOf}
 use Rattle.recording.specs.Ticks.{totalTicks}
-use Rattle.writer.specs.Samples.{WritesTwoBytes, WritingsHold}
-use Rattle.writer.specs.Written.{recordingOf, written}
+use Rattle.recording.specs.FileOf.{headerBytes, stepBytes, stepsBytes, fileOf}
+use Rattle.writer.specs.{Samples.WritesTwoBytes, Samples.WritingsHold, Written.recordingOf, Written.written}
 use Rattle.writer.specs.WrittenSteps.{bitSteps, byteSteps, sentSteps, writtenSteps}
 
 pub writes-two-bytes : WritesTwoBytes

@@ -1,31 +1,19 @@
 -- Read-back over tick lists: a pair for the string gives the ticks that are put down, so that the judge finds them complete with it; and
 -- what the judge finds where no byte was given. Assumes nothing.
-use Prim.Native.Nat.{ℕ}
-use mathlib.Core.Path.{_≡_, refl}
-use mathlib.Core.List.{List, [], _∷_}
+use Rattle.answer.specs.Basics.{ℕ, List, [], _∷_, _≡_}
+use mathlib.Core.Path.{refl}
 use borrow.Author.Needs.{needs}
-use Rattle.recording.specs.GoodForm.{Bytes}
-use Rattle.recording.specs.Ticks.{ticks}
-use Rattle.transfer.specs.Limits.{standardLimits}
-use Rattle.transfer.specs.Offsets.{below, upTo}
+use Rattle.recording.specs.{GoodForm.Bytes, Ticks.ticks}
+use Rattle.transfer.specs.{Types.Limits, Types.Lines, Limits.standardLimits, Offsets.below, Offsets.upTo, Moves.move, Outcome.run}
+use Rattle.transfer.specs.{Outcome.outcome, Parties.planBytes, Pair.senderTrack, Pair.receiverTrack, Demand3.CompleteWith}
+use Rattle.transfer.specs.{Demand3.Explained, Decisions.brokenAt}
 use Rattle.transfer.specs.Phases.{next, same, withBit, handover, afterBit}
-use Rattle.transfer.specs.Moves.{move}
-use Rattle.transfer.specs.Outcome.{run, outcome}
-use Rattle.transfer.specs.Parties.{planBytes}
-use Rattle.transfer.specs.Pair.{senderTrack, receiverTrack}
-use Rattle.transfer.specs.Demand3.{CompleteWith, Explained}
-use Rattle.transfer.specs.Decisions.{brokenAt}
-use Rattle.transfer.specs.declared.limits.Limits.{Limits}
-use Rattle.transfer.specs.declared.lines.Lines.{Lines}
-use Rattle.answer.specs.declared.verdict.Fault.the-variants.{EmptyStream}
+use Rattle.answer.specs.Types.{EmptyStream}
 use Rattle.transfer.proofs.Demand3.{standard-demand3}
 use Rattle.judge.specs.Judged.{tickLines}
-use Rattle.writer.specs.Card.{standardCard}
-use Rattle.writer.specs.WrittenSteps.{writtenSteps}
+use Rattle.writer.specs.{Card.standardCard, WrittenSteps.writtenSteps}
 use Rattle.writer.specs.declared.card.Card.{Card}
-use Rattle.writer.proofs.SentPlan.{planOf, sends-string}
-use Rattle.writer.proofs.SentRules.{InTime, plan-keeps}
-use Rattle.writer.proofs.SentTicks.{gives-sent}
+use Rattle.writer.proofs.{SentPlan.planOf, SentPlan.sends-string, SentRules.InTime, SentRules.plan-keeps, SentTicks.gives-sent}
 
 -- What each tick of the recording of a string shows.
 abbrev pub writtenLines : Card → (string : List ℕ) → List Lines

@@ -1,18 +1,13 @@
 -- The plan of a sender and a receiver that a card and a string of one or more bytes mean, and that it sends the string.
 -- Assumes nothing.
-use Prim.Native.Nat.{ℕ, zero, suc, _+_, _-_, _*_, _/_, _%_, _^_, _<_}
-use native.Mathlib.Omega.{arith}
-use native.Mathlib.Nat.{pow-suc}
-use mathlib.Core.Path.{_≡_, refl, ap, ap₂}
-use mathlib.Core.Bool.{Bool, true, false}
-use mathlib.Core.List.{List, [], _∷_}
-use lib.Dec.{eqb}
-use lib.ListN.{replicate}
+use Rattle.answer.specs.Basics.{ℕ, zero, suc, _+_, _-_, _*_, _/_, _%_, _^_, _<_, Bool, true, false, List, [], _∷_, replicate, _≡_, eqb}
+use Rattle.answer.specs.Basics.{if_then_else_}
+use native.Mathlib.{Omega.arith, Nat.pow-suc}
+use mathlib.Core.Path.{refl, ap, ap₂}
 use borrow.Author.Tests.{eqb-true, eqb-false}
 use Rattle.recording.specs.GoodForm.{Bytes}
-use Rattle.answer.specs.Choice.{if_then_else_}
-use Rattle.transfer.specs.Parties.{Bit, Frame, Sending, more, last, Plan, valueOf, sendingBytes}
 use Rattle.transfer.specs.Pair.{values}
+use Rattle.transfer.specs.Parties.{Bit, Frame, Sending, more, last, Plan, valueOf, sendingBytes}
 use Rattle.writer.specs.declared.card.Card.{Card}
 
 -- The lowest bit of a value; pulled is one.

@@ -1,13 +1,11 @@
 -- The plan of a card whose durations are in time keeps the two parties' rules. Assumes nothing.
-use Prim.Native.Nat.{ℕ, zero, suc, _-_, _/_, _≤_, _<_}
+use Rattle.answer.specs.Basics.{ℕ, zero, suc, _-_, _/_, _≤_, _<_, Bool, List, [], _∷_, length, replicate, _≡_}
 use native.Mathlib.Omega.{arith}
-use mathlib.Core.Path.{_≡_, refl, ap}
-use mathlib.Core.Bool.{Bool}
-use mathlib.Core.List.{List, [], _∷_}
-use lib.ListN.{length, replicate, length-replicate}
+use mathlib.Core.Path.{refl, ap}
+use lib.ListN.{length-replicate}
 use borrow.Author.Needs.{needs}
+use Rattle.transfer.specs.Types.{Limits}
 use Rattle.transfer.specs.Rules.{lastOf, BitRule, BitRules, FrameRules, SendingRules, PlanRules}
-use Rattle.transfer.specs.declared.limits.Limits.{Limits}
 use Rattle.writer.specs.declared.card.Card.{Card}
 use Rattle.writer.proofs.SentPlan.{odd, bitOf, bitsOf, frameOf, sendingOf, planOf}
 

@@ -1,21 +1,13 @@
 -- The tracks of a card's plan give the ticks that the steps put down mean. Assumes nothing.
-use Prim.Native.Nat.{ℕ, zero, suc, _+_, _-_, _*_, _/_, _%_, _≤_, _<_}
+use Rattle.answer.specs.Basics.{ℕ, zero, suc, _+_, _-_, _*_, _/_, _%_, _≤_, _<_, Bool, true, false, List, [], _∷_, _++_, map, replicate}
+use Rattle.answer.specs.Basics.{_≡_, eqb, if_then_else_}
 use native.Mathlib.Omega.{arith}
-use mathlib.Core.Path.{_≡_, refl, sym, ap, ap₂, _∙_}
-use mathlib.Core.Bool.{Bool, true, false}
-use mathlib.Core.List.{List, [], _∷_, _++_, map, append-nil, append-assoc}
-use lib.Dec.{eqb}
-use lib.ListN.{replicate}
-use Rattle.recording.specs.Ticks.{ticks}
-use Rattle.recording.specs.declared.step.Step.{Step}
-use Rattle.answer.specs.Choice.{if_then_else_}
-use Rattle.transfer.specs.Lines.{linesOf}
+use mathlib.Core.List.{append-nil, append-assoc}
+use mathlib.Core.Path.{refl, sym, ap, ap₂, _∙_}
+use Rattle.recording.specs.{Types.Step, Ticks.ticks}
+use Rattle.transfer.specs.{Lines.linesOf, Pair.senderPulls, Pair.receiverPulls, Pair.gives}
 use Rattle.transfer.specs.Parties.{Pulls, pulls, nobody, held, clock, clockHeld, sets, offers, bitsTrack, frameTrack, track}
-use Rattle.transfer.specs.Pair.{senderPulls, receiverPulls, gives}
-use Rattle.transfer.proofs.Rows.{lines}
-use Rattle.transfer.proofs.Forward.{shows as onBus}
-use Rattle.transfer.proofs.HandoverTicks.{frame-ticks}
-use Rattle.transfer.proofs.Plans.{handover-is}
+use Rattle.transfer.proofs.{Rows.lines, Forward.shows as onBus, HandoverTicks.frame-ticks, Plans.handover-is}
 use Rattle.writer.specs.WrittenSteps.{shows, bitSteps, byteSteps, sentSteps}
 use Rattle.writer.specs.declared.card.Card.{Card}
 use Rattle.writer.proofs.SentPlan.{odd, bitsOf, frameOf, planOf}

@@ -1,17 +1,12 @@
 -- The steps of a string, a byte at a time, for a loop at byte i. Assumes nothing.
-use Prim.Native.Nat.{ℕ, suc, _+_, _*_, _<_, _≤_}
-use mathlib.Core.List.{List, [], _∷_, _++_}
-use mathlib.Core.Path.{_≡_, refl, sym}
-use native.Mathlib.Numerals.{add-one}
-use native.Mathlib.Omega.{arith}
-use lib.ListN.{length, getD, drop, length-append, length-drop, drop-of-length-le}
-use lib.Seq.{drop-cons}
+use Rattle.answer.specs.Basics.{ℕ, suc, _+_, _*_, _≤_, _<_, List, [], _∷_, _++_, length, drop, getD, _≡_}
+use mathlib.Core.Path.{refl, sym}
+use native.Mathlib.{Numerals.add-one, Omega.arith}
+use lib.{ListN.length-append, ListN.length-drop, ListN.drop-of-length-le, Seq.drop-cons}
+use Rattle.writer.specs.{Written.writtenStepCount, Put.withSteps, Put.Put}
 use Rattle.writer.specs.WrittenSteps.{byteSteps, plainGap, sentSteps, emptySteps, writtenSteps}
-use Rattle.writer.specs.Written.{writtenStepCount}
-use Rattle.writer.specs.Put.{withSteps, Put}
 use Rattle.writer.specs.declared.card.Card.{Card}
-use Rattle.writer.proofs.PieceLaws.{goes-on}
-use Rattle.writer.proofs.ByteLaws.{byte-count, last-count}
+use Rattle.writer.proofs.{PieceLaws.goes-on, ByteLaws.byte-count, ByteLaws.last-count}
 
 module _ (card : Card) where
   pub no-bytes : (bytes : List ℕ) → length bytes ≡ 0 → writtenSteps card bytes ≡ emptySteps card

@@ -1,13 +1,9 @@
 -- The number of ticks of a written recording. Assumes nothing.
-use Prim.Native.Nat.{ℕ, suc, _+_, _-_, _*_, _≤_}
-use mathlib.Core.List.{List, [], _∷_}
-use mathlib.Core.Path.{_≡_, refl}
-use native.Mathlib.Nat.{mul-le-mul, suc-mul}
-use native.Mathlib.Omega.{arith}
+use Rattle.answer.specs.Basics.{ℕ, suc, _+_, _-_, _*_, _≤_, List, [], _∷_, length, _≡_}
+use mathlib.Core.Path.{refl}
+use native.Mathlib.{Nat.mul-le-mul, Nat.suc-mul, Omega.arith}
 use borrow.Author.Tests.{eq-eqb, ne-eqb}
-use lib.ListN.{length}
-use Rattle.recording.specs.Ticks.{totalTicks}
-use Rattle.recording.specs.declared.step.Step.{Step}
+use Rattle.recording.specs.{Types.Step, Ticks.totalTicks}
 use Rattle.recording.proofs.StepLaws.{total-append}
 use Rattle.writer.specs.WrittenSteps.{bitSteps, byteSteps, plainGap, endGap, sentSteps, writtenSteps}
 use Rattle.writer.specs.WrittenTicks.{openingTicks, acknowledgedTicks, valueTicks, sentTicks, writtenTicks, WrittenTicksLaw}

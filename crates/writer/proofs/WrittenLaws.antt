@@ -1,36 +1,20 @@
 -- What the writer leaves: the header with the steps after it is the recording, and the tests decide. Assumes nothing.
-use Prim.Native.Nat.{ℕ, _+_, _<_, _≤_}
-use mathlib.Core.List.{List}
-use mathlib.Core.Path.{_≡_, sym, ap, subst⁻¹, _∙_}
-use native.Mathlib.Nat.{zero-add}
-use native.Mathlib.Omega.{arith}
+use Rattle.answer.specs.Basics.{ℕ, _+_, _≤_, _<_, List, length, _≡_}
+use mathlib.Core.Path.{sym, ap, subst⁻¹, _∙_}
+use native.Mathlib.{Nat.zero-add, Omega.arith}
 use borrow.Author.Tests.{lt-ltb, le-ltb}
-use lib.ListN.{length}
 use lib.Seq.{sets, sets-eq, take-append-seam}
-use Rattle.answer.specs.Answers.{refused, accepted}
-use Rattle.answer.specs.Lent.{_over_, first}
-use Rattle.answer.specs.declared.refusal.Refusal.{Refusal}
-use Rattle.answer.specs.declared.refusal.Refusal.the-variants.{TooManyBytes, ShortDestination}
-use Rattle.recording.specs.GoodForm.{Bytes}
-use Rattle.recording.specs.Layout.{fileLength}
-use Rattle.recording.specs.Ticks.{totalTicks}
+use Rattle.answer.specs.{Types.Refusal, Types.TooManyBytes, Types.ShortDestination, Answers.refused, Answers.accepted, Lent._over_}
+use Rattle.answer.specs.{Lent.first}
+use Rattle.recording.specs.{Types.Header, Types.Step, GoodForm.Bytes, Layout.fileLength, Ticks.totalTicks}
 use Rattle.recording.specs.FileOf.{headerBytes, stepsBytes, goodHeader, fileOf}
-use Rattle.recording.specs.declared.header.Header.{Header}
-use Rattle.recording.specs.declared.step.Step.{Step}
-use Rattle.recording.proofs.SetsLaws.{sets-append}
-use Rattle.recording.proofs.FileOfLaws.{header-length, file-length}
+use Rattle.recording.proofs.{SetsLaws.sets-append, FileOfLaws.header-length, FileOfLaws.file-length}
 use Rattle.transfer.specs.Limits.{standardLimits}
-use Rattle.writer.specs.Card.{standardCard}
-use Rattle.writer.specs.WrittenSteps.{writtenSteps}
+use Rattle.writer.specs.{Card.standardCard, WrittenSteps.writtenSteps, ReadBack.ReadsBack, ReadBack.Writable, Promise.WritePromise}
+use Rattle.writer.specs.{WrittenTicks.writtenTicks, Put.withSteps}
 use Rattle.writer.specs.Written.{mostBytes, writtenStepCount, writtenLength, recordingOf, Written, leaves, written}
-use Rattle.writer.specs.ReadBack.{ReadsBack, Writable}
-use Rattle.writer.specs.Promise.{WritePromise}
-use Rattle.writer.specs.WrittenTicks.{writtenTicks}
-use Rattle.writer.specs.Put.{withSteps}
 use Rattle.writer.specs.declared.card.Card.{Card}
-use Rattle.writer.proofs.StringLaws.{written-count}
-use Rattle.writer.proofs.TickLaws.{written-ticks}
-use Rattle.writer.proofs.ReadBack.{counted, read-back}
+use Rattle.writer.proofs.{StringLaws.written-count, TickLaws.written-ticks, ReadBack.counted, ReadBack.read-back}
 
 -- The header put down first, and then the steps.
 file-put : (d d₁ d₂ : List ℕ) (steps : List Step) → fileLength (length steps) ≤ length d

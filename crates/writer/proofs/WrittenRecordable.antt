@@ -1,10 +1,7 @@
 -- The steps put down are such that a recording can have them. Assumes nothing.
-use Prim.Native.Nat.{ℕ, zero, suc, _/_, _≤_}
-use mathlib.Core.List.{List, [], _∷_, _++_}
+use Rattle.answer.specs.Basics.{ℕ, zero, suc, _/_, _≤_, List, [], _∷_, _++_}
 use borrow.Author.Needs.{needs}
-use Rattle.recording.specs.FileOf.{Recordable}
-use Rattle.recording.specs.Layout.{longestDuration}
-use Rattle.recording.specs.declared.step.Step.{Step}
+use Rattle.recording.specs.{Types.Step, FileOf.Recordable, Layout.longestDuration}
 use Rattle.writer.specs.Card.{standardCard}
 use Rattle.writer.specs.WrittenSteps.{bitSteps, byteSteps, plainGap, endGap, sentSteps, writtenSteps}
 use Rattle.writer.specs.declared.card.Card.{Card}

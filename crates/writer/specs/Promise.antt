@@ -1,11 +1,8 @@
 -- What an entry promises that writes a recording: of the answer and of the destination, whole, as the call leaves them.
-use Prim.Native.Nat.{ℕ}
-use mathlib.Core.List.{List}
-use mathlib.Core.Path.{_≡_}
+use Rattle.answer.specs.Basics.{ℕ, List, _≡_}
 use Rattle.answer.specs.Lent.{first}
-use Rattle.transfer.specs.declared.limits.Limits.{Limits}
-use Rattle.writer.specs.ReadBack.{ReadsBack, Writable}
-use Rattle.writer.specs.Written.{Written, written}
+use Rattle.transfer.specs.Types.{Limits}
+use Rattle.writer.specs.{ReadBack.ReadsBack, ReadBack.Writable, Written.Written, Written.written}
 use Rattle.writer.specs.declared.card.Card.{Card}
 
 pub record WritePromise (L : Limits) (card : Card) (bytes destination : List ℕ) (left : Written) : Type 0 where

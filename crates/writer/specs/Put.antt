@@ -1,12 +1,7 @@
 -- The destination with steps put down in it.
-use Prim.Native.Nat.{ℕ, _+_}
-use mathlib.Core.List.{List}
-use mathlib.Core.Path.{_≡_}
-use lib.ListN.{length}
+use Rattle.answer.specs.Basics.{ℕ, _+_, List, length, _≡_}
 use lib.Seq.{sets}
-use Rattle.recording.specs.Layout.{stepPlace}
-use Rattle.recording.specs.FileOf.{stepsBytes}
-use Rattle.recording.specs.declared.step.Step.{Step}
+use Rattle.recording.specs.{Types.Step, Layout.stepPlace, FileOf.stepsBytes}
 
 -- Steps stand from step `first` on, and every other byte is as before.
 unfoldable pub withSteps : (destination : List ℕ) (first : ℕ) → List Step → List ℕ

@@ -1,15 +1,10 @@
 -- Demand 2: what the writer put down, the judge reads back. It is stated over what the judge gives, and so over document 01's phases.
-use Prim.Native.Nat.{ℕ, _≤_}
-use mathlib.Core.Path.{_≡_}
-use mathlib.Core.List.{List, [], _∷_}
-use lib.ListN.{length}
+use Rattle.answer.specs.Basics.{ℕ, _≤_, List, [], _∷_, length, _≡_}
 use Rattle.answer.specs.Lent.{_over_}
 use Rattle.recording.specs.GoodForm.{Bytes}
-use Rattle.transfer.specs.Limits.{standardLimits}
-use Rattle.transfer.specs.declared.limits.Limits.{Limits}
+use Rattle.transfer.specs.{Types.Limits, Limits.standardLimits}
 use Rattle.judge.specs.Judged.{Judged, byteRoom, ledgerRoom, judged}
-use Rattle.writer.specs.Card.{standardCard}
-use Rattle.writer.specs.Written.{mostBytes, writtenLength, recordingOf}
+use Rattle.writer.specs.{Card.standardCard, Written.mostBytes, Written.writtenLength, Written.recordingOf}
 use Rattle.writer.specs.declared.card.Card.{Card}
 
 -- 20, or 21 where there were no bytes.

@@ -1,11 +1,6 @@
 -- What is put down, answered and left for some strings and destinations, written out.
-use Prim.Native.Nat.{ℕ}
-use mathlib.Core.List.{List, [], _∷_, _++_, map}
-use mathlib.Core.Path.{_≡_}
-use lib.ListN.{replicate}
-use Rattle.recording.specs.FileOf.{fileOf}
-use Rattle.recording.specs.declared.step.Step.{Step}
-use Rattle.recording.specs.SampleSteps.{_∶_, zeros, s1File}
+use Rattle.answer.specs.Basics.{ℕ, List, [], _∷_, _++_, map, replicate, _≡_}
+use Rattle.recording.specs.{Types.Step, FileOf.fileOf, SampleSteps._∶_, SampleSteps.zeros, SampleSteps.s1File}
 use Rattle.writer.specs.Card.{standardCard}
 use Rattle.writer.specs.Written.{recordingOf, Written, leaves, written}
 

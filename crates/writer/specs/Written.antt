@@ -1,14 +1,6 @@
 -- What the writer answers and leaves, for any bytes and any destination.
-use Prim.Native.Nat.{ℕ, _+_, _*_}
-use mathlib.Core.List.{List}
-use mathlib.Core.Path.{_≡_}
-use lib.Dec.{ltb}
-use lib.ListN.{length}
-use Rattle.answer.specs.Answers.{refused, accepted}
-use Rattle.answer.specs.Lent.{_over_}
-use Rattle.answer.specs.declared.Answer.{Answer}
-use Rattle.answer.specs.declared.refusal.Refusal.the-variants.{TooManyBytes, ShortDestination}
-use Rattle.answer.specs.Choice.{if_then_else_}
+use Rattle.answer.specs.Basics.{ℕ, _+_, _*_, List, length, _≡_, ltb, if_then_else_}
+use Rattle.answer.specs.{Types.Answer, Types.TooManyBytes, Types.ShortDestination, Answers.refused, Answers.accepted, Lent._over_}
 use Rattle.recording.specs.FileOf.{fileOf}
 use Rattle.writer.specs.WrittenSteps.{writtenSteps}
 use Rattle.writer.specs.declared.card.Card.{Card}

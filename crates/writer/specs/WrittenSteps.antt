@@ -1,7 +1,6 @@
 -- Document 01, "What the writer puts down", sentence by sentence.
-use Prim.Native.Nat.{ℕ, zero, suc, _+_, _*_, _/_, _%_}
-use mathlib.Core.List.{List, [], _∷_, _++_}
-use Rattle.recording.specs.declared.step.Step.{Step}
+use Rattle.answer.specs.Basics.{ℕ, zero, suc, _+_, _*_, _/_, _%_, List, [], _∷_, _++_}
+use Rattle.recording.specs.Types.{Step}
 use Rattle.writer.specs.declared.card.Card.{Card}
 
 -- (c,d) for so many ticks. CLK is bit 1 of the line byte, DATA bit 2; "ATN and SRQ stay released".

@@ -1,10 +1,5 @@
 -- How many ticks a written recording has, by the number of bytes alone.
-use Prim.Native.Nat.{ℕ, _+_, _-_, _*_}
-use mathlib.Core.List.{List}
-use mathlib.Core.Path.{_≡_}
-use lib.Dec.{eqb}
-use lib.ListN.{length}
-use Rattle.answer.specs.Choice.{if_then_else_}
+use Rattle.answer.specs.Basics.{ℕ, _+_, _-_, _*_, List, length, _≡_, eqb, if_then_else_}
 use Rattle.recording.specs.Ticks.{totalTicks}
 use Rattle.writer.specs.WrittenSteps.{writtenSteps}
 use Rattle.writer.specs.declared.card.Card.{Card}

@@ -1,7 +1,6 @@
 -- `station_judge` meets its contract: the judge's own, of the answer that crosses. Assumes nothing.
 use borrow.Author.Needs.{needs}
-use Rattle.station.proofs.Crossing.{judged-crosses}
-use Rattle.station.proofs.station_judge.Statement.{statement}
+use Rattle.station.proofs.{Crossing.judged-crosses, station_judge.Statement.statement}
 use Rattle.station.proofs.station_judge.Tie as tie
 
 returns : tie.Need-returns

@@ -1,7 +1,6 @@
 -- `station_write` meets its contract: the writer's own, of the answer that crosses. Assumes nothing.
 use borrow.Author.Needs.{needs}
-use Rattle.station.proofs.Crossing.{written-crosses}
-use Rattle.station.proofs.station_write.Statement.{statement}
+use Rattle.station.proofs.{Crossing.written-crosses, station_write.Statement.statement}
 use Rattle.station.proofs.station_write.Tie as tie
 
 returns : tie.Need-returns

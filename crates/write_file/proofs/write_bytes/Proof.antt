@@ -1,8 +1,7 @@
 -- `write_bytes` is safe: what the writer counts lies within the destination. Assumes nothing.
 use borrow.Author.Needs.{needs}
 use Rattle.io.proofs.Counting.{front}
-use Rattle.write_file.proofs.Within.{count-within}
-use Rattle.write_file.proofs.write_bytes.Statement.{statement}
+use Rattle.write_file.proofs.{Within.count-within, write_bytes.Statement.statement}
 use Rattle.write_file.proofs.write_bytes.Tie as tie
 
 -- src/main.rt:43:27

@@ -1,7 +1,6 @@
 -- `refused` meets its contract: the number is the refusal's. Assumes nothing.
 use mathlib.Core.Path.{ap}
 use borrow.Author.Needs.{needs}
-use Rattle.answer.specs.declared.Answer.{Answer}
 use Rattle.answer.proofs.Answer.refused.Statement.{statement}
 use Rattle.answer.proofs.Answer.refused.Tie as tie
 

@@ -1,9 +1,9 @@
 -- `name_at` meets its contract. Assumes nothing.
 use borrow.Author.Needs.{needs}
-use Prim.Native.Nat.{_-_}
+use Rattle.answer.specs.Basics.{_-_}
 use mathlib.Core.Path.{refl}
-use Rattle.answer.proofs.NameLaws.{Read, read-none, read-next, read-space, read-full}
 use Rattle.answer.proofs.names.name_at.Statement.{statement}
+use Rattle.answer.proofs.NameLaws.{Read, read-none, read-next, read-space, read-full}
 use Rattle.answer.proofs.names.name_at.Tie as tie
 use Rattle.answer.proofs.names.name_at.Reads as reads
 use Rattle.answer.proofs.names.name_at.Lts as lts

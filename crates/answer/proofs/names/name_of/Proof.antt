@@ -2,8 +2,7 @@
 use borrow.Author.Needs.{needs}
 use mathlib.Core.Path.{refl}
 use Rattle.answer.specs.Names.{wordOf, wordAt, wordIn}
-use Rattle.answer.proofs.NameLaws.{row-spells, other-spells}
-use Rattle.answer.proofs.names.name_of.Statement.{statement}
+use Rattle.answer.proofs.{NameLaws.row-spells, NameLaws.other-spells, names.name_of.Statement.statement}
 use Rattle.answer.proofs.names.name_of.Tie as tie
 
 returns : tie.Need-returns

@@ -1,8 +1,6 @@
 -- `classes::compare_class` is safe and ends. The loop keeps the length; the cases left are the measure. Assumes nothing.
-use Prim.Native.Nat.{_-_}
-use mathlib.Core.Path.{_≡_}
+use Rattle.answer.specs.Basics.{_-_, length, _≡_}
 use borrow.Author.Needs.{needs}
-use lib.ListN.{length}
 use Rattle.compare.proofs.classes.compare_class.Statement.{statement}
 use Rattle.compare.proofs.classes.compare_class.Tie as tie
 

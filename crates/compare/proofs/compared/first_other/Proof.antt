@@ -1,5 +1,5 @@
 -- `compared::first_other` is safe and ends. The places left are the measure. Assumes nothing.
-use Prim.Native.Nat.{_-_}
+use Rattle.answer.specs.Basics.{_-_}
 use borrow.Author.Needs.{needs}
 use Rattle.compare.proofs.compared.first_other.Statement.{statement}
 use Rattle.compare.proofs.compared.first_other.Tie as tie

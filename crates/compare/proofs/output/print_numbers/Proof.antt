@@ -1,7 +1,6 @@
 -- `output::print_numbers` is safe and ends. The numbers left are the measure. Assumes nothing.
-use Prim.Native.Nat.{_-_}
+use Rattle.answer.specs.Basics.{_-_, length}
 use borrow.Author.Needs.{needs}
-use lib.ListN.{length}
 use Rattle.compare.proofs.output.print_numbers.Statement.{statement}
 use Rattle.compare.proofs.output.print_numbers.Tie as tie
 

@@ -1,7 +1,6 @@
 -- `output::print_words` is safe and ends. The bytes left are the measure. Assumes nothing.
-use Prim.Native.Nat.{_-_}
+use Rattle.answer.specs.Basics.{_-_, length}
 use borrow.Author.Needs.{needs}
-use lib.ListN.{length}
 use Rattle.compare.proofs.output.print_words.Statement.{statement}
 use Rattle.compare.proofs.output.print_words.Tie as tie
 

@@ -1,9 +1,7 @@
 -- `files::read_input` meets its contract. Assumes nothing.
 use borrow.Author.Needs.{needs}
 use native.Mathlib.Omega.{arith}
-use Prim.Native.Nat.{_-_, _≤_}
-use mathlib.Core.Path.{_≡_}
-use lib.ListN.{length}
+use Rattle.answer.specs.Basics.{_-_, _≤_, length, _≡_}
 use Rattle.io.proofs.Counting.{counts}
 use Rattle.files.proofs.input.read_input.Statement.{statement}
 use Rattle.files.proofs.input.read_input.Tie as tie

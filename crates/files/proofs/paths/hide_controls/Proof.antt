@@ -1,12 +1,9 @@
 -- `files::hide_controls` meets its contract. Assumes nothing.
 use borrow.Author.Needs.{needs}
-use native.Mathlib.Omega.{arith}
-use Prim.Native.Nat.{_-_, _≤_}
-use mathlib.Core.Path.{_≡_, sym, ap, _∙_}
-use lib.ListN.{length}
+use Rattle.answer.specs.Basics.{_-_, length}
 use Rattle.files.specs.Printable.{printable}
-use Rattle.files.proofs.MapLaws.{Mapped, mapped-first, mapped-next, mapped-all}
 use Rattle.files.proofs.paths.hide_controls.Statement.{statement}
+use Rattle.files.proofs.MapLaws.{Mapped, mapped-first, mapped-next, mapped-all}
 use Rattle.files.proofs.paths.hide_controls.Tie as tie
 use Rattle.files.proofs.paths.hide_controls.Reads as reads
 use Rattle.files.proofs.paths.hide_controls.Lts as lts

@@ -1,7 +1,6 @@
 -- `files::name_input` meets its contract. Assumes nothing.
 use borrow.Author.Needs.{needs}
-use native.Mathlib.Omega.{arith}
-use native.Mathlib.Nat.{pos-of-ne-zero}
+use native.Mathlib.{Omega.arith, Nat.pos-of-ne-zero}
 use lib.ListN.{length-set}
 use Rattle.files.proofs.source.name_input.Statement.{statement}
 use Rattle.files.proofs.source.name_input.Tie as tie

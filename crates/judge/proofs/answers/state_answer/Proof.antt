@@ -1,7 +1,6 @@
 -- `state_answer` meets its contract. Assumes nothing.
 use borrow.Author.Needs.{needs}
-use Rattle.judge.proofs.ReadVerdicts.{state-answer}
-use Rattle.judge.proofs.answers.state_answer.Statement.{statement}
+use Rattle.judge.proofs.{ReadVerdicts.state-answer, answers.state_answer.Statement.statement}
 use Rattle.judge.proofs.answers.state_answer.Tie as tie
 
 returns : tie.Need-returns

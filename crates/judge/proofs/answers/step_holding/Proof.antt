@@ -2,8 +2,8 @@
 use native.Mathlib.Omega.{arith}
 use mathlib.Core.Path.{sym}
 use borrow.Author.Needs.{needs}
-use Rattle.judge.proofs.HoldingLaws.{Back, all-before, some-before, step-before}
 use Rattle.judge.proofs.answers.step_holding.Statement.{statement}
+use Rattle.judge.proofs.HoldingLaws.{Back, all-before, some-before, step-before}
 use Rattle.judge.proofs.answers.step_holding.Tie as tie
 
 abbrev Inv-loop : tie.InvT-loop

@@ -4,10 +4,8 @@ use native.Mathlib.Omega.{arith}
 use borrow.Author.Needs.{needs}
 use Rattle.recording.proofs.GoodFormLaws.{good-form}
 use Rattle.judge.specs.Judged.{leaves}
-use Rattle.judge.proofs.JudgedLaws.{is-refused, few-places, few-ledger-places}
-use Rattle.judge.proofs.ReadVerdicts.{is-read}
-use Rattle.judge.proofs.Demand3.{promised}
-use Rattle.judge.proofs.entry.judge.Statement.{statement}
+use Rattle.judge.proofs.{JudgedLaws.is-refused, JudgedLaws.few-places, JudgedLaws.few-ledger-places, ReadVerdicts.is-read}
+use Rattle.judge.proofs.{Demand3.promised, entry.judge.Statement.statement}
 use Rattle.judge.proofs.entry.judge.Tie as tie
 
 returns : tie.Need-returns

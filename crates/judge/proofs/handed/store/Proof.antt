@@ -1,7 +1,6 @@
 -- `store` meets its contract. Assumes nothing.
 use borrow.Author.Needs.{needs}
-use Rattle.judge.proofs.Tests.{tests}
-use Rattle.judge.proofs.handed.store.Statement.{statement}
+use Rattle.judge.proofs.{Tests.tests, handed.store.Statement.statement}
 use Rattle.judge.proofs.handed.store.Tie as tie
 
 byte-requires : tie.Need-byte-requires

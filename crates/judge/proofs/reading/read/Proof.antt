@@ -1,18 +1,14 @@
 -- `read` meets its contract. Both loops keep that the reading, from where it stands, comes to the whole. Assumes nothing.
-use Prim.Native.Nat.{_≤_, _<_, _+_, _*_, _-_}
-use mathlib.Core.List.{_++_}
+use Rattle.answer.specs.Basics.{_+_, _-_, _*_, _≤_, _<_, _++_, replicate}
 use mathlib.Core.Path.{refl, sym, _∙_}
 use native.Mathlib.Omega.{arith}
 use borrow.Author.Needs.{needs}
-use lib.ListN.{replicate}
 use Rattle.recording.specs.Layout.{longestDuration}
 use Rattle.judge.specs.Reading.{ticksFrom}
-use Rattle.judge.proofs.HandedLists.{byte-keeps-length, ticks-keep-length}
+use Rattle.judge.proofs.{HandedLists.byte-keeps-length, HandedLists.ticks-keep-length, reading.read.Statement.statement}
 use Rattle.judge.proofs.TickLists.{step-left, all-left, none-left, tick-left, ticks-left, no-tick-left, few-handed}
-use Rattle.judge.proofs.ReadingLaws.{comesTo, Keeps, tick-read, tick-most, taken-by, counted, idle-passed}
-use Rattle.judge.proofs.ReadingLaws.{step-begins, step-ends, reading-ends, verdict-stands}
-use Rattle.judge.proofs.ReadingLaws.{has-place, reading-begins, reading-is}
-use Rattle.judge.proofs.reading.read.Statement.{statement}
+use Rattle.judge.proofs.ReadingLaws.{comesTo, Keeps, tick-read, tick-most, taken-by, counted, idle-passed, step-begins, step-ends}
+use Rattle.judge.proofs.ReadingLaws.{reading-ends, verdict-stands, has-place, reading-begins, reading-is}
 use Rattle.judge.proofs.reading.read.Tie as tie
 
 abbrev Inv-loop : tie.InvT-loop

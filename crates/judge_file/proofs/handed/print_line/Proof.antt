@@ -1,6 +1,6 @@
 -- `print_line` is safe and ends: at each turn fewer places are left. Assumes nothing.
 use borrow.Author.Needs.{needs}
-use Prim.Native.Nat.{_-_}
+use Rattle.answer.specs.Basics.{_-_}
 use Rattle.judge_file.proofs.handed.print_line.Statement.{statement}
 use Rattle.judge_file.proofs.handed.print_line.Tie as tie
 

@@ -1,8 +1,7 @@
 -- `idle_ticks` meets its contract. Assumes nothing.
 use mathlib.Core.Path.{_∙_}
 use borrow.Author.Needs.{needs}
-use Rattle.reader.proofs.IdleLaws.{idle-told}
-use Rattle.reader.proofs.idle.idle_ticks.Statement.{statement}
+use Rattle.reader.proofs.{IdleLaws.idle-told, idle.idle_ticks.Statement.statement}
 use Rattle.reader.proofs.idle.idle_ticks.Tie as tie
 
 returns : tie.Need-returns

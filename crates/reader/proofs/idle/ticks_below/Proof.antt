@@ -2,8 +2,7 @@
 use mathlib.Core.Path.{_∙_}
 use native.Mathlib.Omega.{arith}
 use borrow.Author.Needs.{needs}
-use Rattle.reader.proofs.IdleLaws.{all-below, some-below}
-use Rattle.reader.proofs.idle.ticks_below.Statement.{statement}
+use Rattle.reader.proofs.{IdleLaws.all-below, IdleLaws.some-below, idle.ticks_below.Statement.statement}
 use Rattle.reader.proofs.idle.ticks_below.Tie as tie
 
 returns-2 : tie.Need-returns-2

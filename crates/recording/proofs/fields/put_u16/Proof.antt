@@ -1,10 +1,9 @@
 -- `put_u16` meets its contract: its two stores are one run. Assumes nothing.
-use Prim.Native.Nat.{_/_, _%_}
+use Rattle.answer.specs.Basics.{_/_, _%_}
 use native.Mathlib.Omega.{arith}
 use lib.ListN.{length-set}
-use Rattle.recording.proofs.SetsLaws.{two-stores}
+use Rattle.recording.proofs.{SetsLaws.two-stores, fields.put_u16.Statement.statement}
 use borrow.Author.Needs.{needs}
-use Rattle.recording.proofs.fields.put_u16.Statement.{statement}
 use Rattle.recording.proofs.fields.put_u16.Tie as tie
 
 returns : tie.Need-returns

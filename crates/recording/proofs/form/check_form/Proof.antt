@@ -1,10 +1,9 @@
 -- `check_form` meets its contract: each return is a law of the form. Assumes nothing.
 use mathlib.Core.Path.{sym, _∙_}
 use native.Mathlib.Omega.{arith}
-use Rattle.recording.proofs.FormLaws.{short-file, header-refuses, header-passes}
-use Rattle.recording.proofs.PassedLaws.{header-passed}
+use Rattle.recording.proofs.{FormLaws.short-file, FormLaws.header-refuses, FormLaws.header-passes, PassedLaws.header-passed}
+use Rattle.recording.proofs.{form.check_form.Statement.statement}
 use borrow.Author.Needs.{needs}
-use Rattle.recording.proofs.form.check_form.Statement.{statement}
 use Rattle.recording.proofs.form.check_form.Tie as tie
 
 check-steps-requires : tie.Need-check-steps-requires

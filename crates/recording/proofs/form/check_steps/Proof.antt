@@ -1,13 +1,10 @@
 -- `check_steps` meets its contract. The loop's invariant: what is left to decide decides the whole, and the sum fits. Assumes nothing.
-use Prim.Native.Nat.{_≤_, _*_, _-_}
-use mathlib.Core.Path.{_≡_, sym, _∙_}
-use borrow.Author.Needs.{needs}
-use borrow.Author.Tests.{eq-eqb, ne-eqb}
-use Rattle.recording.specs.Layout.{longestDuration}
-use Rattle.recording.specs.Ticks.{stepsFrom}
-use Rattle.recording.specs.Form.{bodyForm}
-use Rattle.recording.proofs.FormLaws.{formFrom, steps-start, step-passes, step-refuses, steps-done}
+use Rattle.answer.specs.Basics.{_-_, _*_, _≤_, _≡_}
+use mathlib.Core.Path.{sym, _∙_}
+use borrow.Author.{Needs.needs, Tests.eq-eqb, Tests.ne-eqb}
+use Rattle.recording.specs.{Layout.longestDuration, Ticks.stepsFrom, Form.bodyForm}
 use Rattle.recording.proofs.form.check_steps.Statement.{statement}
+use Rattle.recording.proofs.FormLaws.{formFrom, steps-start, step-passes, step-refuses, steps-done}
 use Rattle.recording.proofs.form.check_steps.Tie as tie
 
 abbrev Inv-loop : tie.InvT-loop

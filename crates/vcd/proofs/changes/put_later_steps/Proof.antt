@@ -1,14 +1,10 @@
 -- `put_later_steps` meets its contract. The loop's invariant: the steps that are left, put down from here, make the whole. Assumes nothing.
-use Prim.Native.Nat.{_≤_, _*_, _-_}
-use mathlib.Core.Path.{_≡_, refl, sym, _∙_}
+use Rattle.answer.specs.Basics.{_-_, _*_, _≤_, length, _≡_}
+use mathlib.Core.Path.{refl, sym, _∙_}
 use borrow.Author.Needs.{needs}
-use lib.ListN.{length}
-use Rattle.recording.specs.Layout.{longestDuration}
-use Rattle.recording.specs.Ticks.{stepsFrom}
-use Rattle.vcd.specs.Dump.{laterText}
-use Rattle.vcd.specs.Put.{held, put}
-use Rattle.vcd.proofs.StepLaws.{step-goes-on, steps-put}
-use Rattle.vcd.proofs.changes.put_later_steps.Statement.{statement}
+use Rattle.recording.specs.{Layout.longestDuration, Ticks.stepsFrom}
+use Rattle.vcd.specs.{Dump.laterText, Put.held, Put.put}
+use Rattle.vcd.proofs.{StepLaws.step-goes-on, StepLaws.steps-put, changes.put_later_steps.Statement.statement}
 use Rattle.vcd.proofs.changes.put_later_steps.Tie as tie
 
 abbrev Inv-loop : tie.InvT-loop

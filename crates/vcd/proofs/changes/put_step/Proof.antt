@@ -1,9 +1,7 @@
 -- `put_step` meets its contract: each return is a row of the definition. Assumes nothing.
-use borrow.Author.Tests.{eq-eqb, ne-eqb}
+use borrow.Author.{Tests.eq-eqb, Tests.ne-eqb, Needs.needs}
 use Rattle.vcd.specs.Dump.{stepText}
-use Rattle.vcd.proofs.PutLaws.{nothing-put, and-then}
-use borrow.Author.Needs.{needs}
-use Rattle.vcd.proofs.changes.put_step.Statement.{statement}
+use Rattle.vcd.proofs.{PutLaws.nothing-put, PutLaws.and-then, changes.put_step.Statement.statement}
 use Rattle.vcd.proofs.changes.put_step.Tie as tie
 
 returns : tie.Need-returns

@@ -1,8 +1,7 @@
 -- `put_steps` meets its contract: the first step's text, and then the others'. Assumes nothing.
-use Rattle.vcd.proofs.PutLaws.{nothing-put, and-then}
-use Rattle.vcd.proofs.StepLaws.{no-steps, first-step}
+use Rattle.vcd.proofs.{PutLaws.nothing-put, PutLaws.and-then, StepLaws.no-steps, StepLaws.first-step}
+use Rattle.vcd.proofs.{changes.put_steps.Statement.statement}
 use borrow.Author.Needs.{needs}
-use Rattle.vcd.proofs.changes.put_steps.Statement.{statement}
 use Rattle.vcd.proofs.changes.put_steps.Tie as tie
 
 returns-2 : tie.Need-returns-2

@@ -1,8 +1,7 @@
 -- `put_time` meets its contract: its three parts stand one after another. Assumes nothing.
 use Rattle.vcd.specs.Dump.{timeText}
-use Rattle.vcd.proofs.PutLaws.{and-then}
+use Rattle.vcd.proofs.{PutLaws.and-then, changes.put_time.Statement.statement}
 use borrow.Author.Needs.{needs}
-use Rattle.vcd.proofs.changes.put_time.Statement.{statement}
 use Rattle.vcd.proofs.changes.put_time.Tie as tie
 
 returns : tie.Need-returns

@@ -3,9 +3,8 @@ use mathlib.Core.Path.{sym, ap, _∙_}
 use native.Mathlib.Omega.{arith}
 use Rattle.recording.proofs.GoodFormLaws.{good-form}
 use Rattle.vcd.specs.Dumped.{leaves}
-use Rattle.vcd.proofs.DumpedLaws.{is-refused, count-fits, piece-put}
+use Rattle.vcd.proofs.{DumpedLaws.is-refused, DumpedLaws.count-fits, DumpedLaws.piece-put, entry.part.Statement.statement}
 use borrow.Author.Needs.{needs}
-use Rattle.vcd.proofs.entry.part.Statement.{statement}
 use Rattle.vcd.proofs.entry.part.Tie as tie
 
 put-dump-requires : tie.Need-put-dump-requires

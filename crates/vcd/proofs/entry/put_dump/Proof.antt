@@ -1,8 +1,6 @@
 -- `put_dump` meets its contract: its three parts stand one after another. Assumes nothing.
-use Rattle.vcd.proofs.PutLaws.{and-then}
-use Rattle.vcd.proofs.StepLaws.{whole-dump}
+use Rattle.vcd.proofs.{PutLaws.and-then, StepLaws.whole-dump, entry.put_dump.Statement.statement}
 use borrow.Author.Needs.{needs}
-use Rattle.vcd.proofs.entry.put_dump.Statement.{statement}
 use Rattle.vcd.proofs.entry.put_dump.Tie as tie
 
 returns : tie.Need-returns

@@ -1,18 +1,15 @@
 -- `put_decimal` meets its contract, in itself: the digits of a tenth, and then the last digit. The measure is the number. Assumes nothing.
-use Prim.Native.Nat.{ℕ, _<_}
+use Rattle.answer.specs.Basics.{ℕ, _<_}
 use native.Mathlib.Omega.{arith}
 use borrow.Author.Needs.{needs}
 use borrow.Fn.Kinds.{In}
 use borrow.Fn.PlainCycle.{Measures, is, falls, and}
-use Rattle.vcd.proofs.DecimalLaws.{one-digit, more-digits}
-use Rattle.vcd.proofs.PutLaws.{and-then}
+use Rattle.vcd.proofs.{DecimalLaws.one-digit, DecimalLaws.more-digits, PutLaws.and-then, numbers.put_decimal.Kinds.ps}
+use Rattle.vcd.proofs.{numbers.+put_decimal.statement, numbers.+put_decimal.Tie.close}
 use Rattle.vcd.proofs.numbers.digit.Reads as digit
 use Rattle.vcd.proofs.window.put_byte.Reads as put-byte
 use Rattle.vcd.proofs.numbers.put_decimal.Reads as put-decimal
-use Rattle.vcd.proofs.numbers.put_decimal.Kinds.{ps}
 use Rattle.vcd.proofs.numbers.+put_decimal.Lts-put_decimal as lts
-use Rattle.vcd.proofs.numbers.+put_decimal.{statement}
-use Rattle.vcd.proofs.numbers.+put_decimal.Tie.{close}
 
 abbrev μ-put-decimal : Measures 1 ps ℕ
 μ-put-decimal κs a = a .1 .1 .0

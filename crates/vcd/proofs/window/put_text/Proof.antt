@@ -1,11 +1,9 @@
 -- `put_text` meets its contract. The loop's invariant: what is left of the text, put down from here, makes the whole. Assumes nothing.
-use Prim.Native.Nat.{_≤_, _-_}
-use mathlib.Core.Path.{_≡_, refl, sym, _∙_}
+use Rattle.answer.specs.Basics.{_-_, _≤_, length, drop, _≡_}
+use mathlib.Core.Path.{refl, sym, _∙_}
 use borrow.Author.Needs.{needs}
-use lib.ListN.{length, drop}
 use Rattle.vcd.specs.Put.{held, put}
-use Rattle.vcd.proofs.PutLaws.{byte-goes-on, all-put}
-use Rattle.vcd.proofs.window.put_text.Statement.{statement}
+use Rattle.vcd.proofs.{PutLaws.byte-goes-on, PutLaws.all-put, window.put_text.Statement.statement}
 use Rattle.vcd.proofs.window.put_text.Tie as tie
 
 abbrev Inv-loop : tie.InvT-loop

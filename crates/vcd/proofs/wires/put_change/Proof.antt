@@ -1,9 +1,7 @@
 -- `put_change` meets its contract: each return is a row of the definition. Assumes nothing.
-use borrow.Author.Tests.{eq-eqb, ne-eqb}
+use borrow.Author.{Tests.eq-eqb, Tests.ne-eqb, Needs.needs}
 use Rattle.vcd.specs.Wires.{changeText}
-use Rattle.vcd.proofs.PutLaws.{nothing-put}
-use borrow.Author.Needs.{needs}
-use Rattle.vcd.proofs.wires.put_change.Statement.{statement}
+use Rattle.vcd.proofs.{PutLaws.nothing-put, wires.put_change.Statement.statement}
 use Rattle.vcd.proofs.wires.put_change.Tie as tie
 
 returns : tie.Need-returns

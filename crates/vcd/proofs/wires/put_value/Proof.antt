@@ -1,8 +1,7 @@
 -- `put_value` meets its contract: its three bytes stand one after another. Assumes nothing.
 use Rattle.vcd.specs.Wires.{valueText}
-use Rattle.vcd.proofs.PutLaws.{and-then}
+use Rattle.vcd.proofs.{PutLaws.and-then, wires.put_value.Statement.statement}
 use borrow.Author.Needs.{needs}
-use Rattle.vcd.proofs.wires.put_value.Statement.{statement}
 use Rattle.vcd.proofs.wires.put_value.Tie as tie
 
 returns : tie.Need-returns

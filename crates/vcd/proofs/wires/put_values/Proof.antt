@@ -1,7 +1,6 @@
 -- `put_values` meets its contract: the four wires' texts stand one after another. Assumes nothing.
-use Rattle.vcd.proofs.PutLaws.{and-then}
+use Rattle.vcd.proofs.{PutLaws.and-then, wires.put_values.Statement.statement}
 use borrow.Author.Needs.{needs}
-use Rattle.vcd.proofs.wires.put_values.Statement.{statement}
 use Rattle.vcd.proofs.wires.put_values.Tie as tie
 
 returns : tie.Need-returns

@@ -1,12 +1,9 @@
 -- `print_dump` is safe and ends: each piece takes the offset further. Assumes nothing.
 use borrow.Author.Needs.{needs}
 use native.Mathlib.Omega.{arith}
-use Prim.Native.Nat.{_-_}
-use mathlib.Core.Path.{_≡_}
-use lib.ListN.{length}
+use Rattle.answer.specs.Basics.{_-_, length, _≡_}
 use Rattle.io.proofs.Counting.{front}
-use Rattle.vcd_file.proofs.Onward.{onward}
-use Rattle.vcd_file.proofs.pieces.print_dump.Statement.{statement}
+use Rattle.vcd_file.proofs.{Onward.onward, pieces.print_dump.Statement.statement}
 use Rattle.vcd_file.proofs.pieces.print_dump.Tie as tie
 
 abbrev Inv-loop : tie.InvT-loop

@@ -1,7 +1,6 @@
 -- `put_recording` meets its contract: the header and the steps after it are the recording. Assumes nothing.
-use Rattle.writer.proofs.WrittenLaws.{recording-put}
+use Rattle.writer.proofs.{WrittenLaws.recording-put, entry.put_recording.Statement.statement}
 use borrow.Author.Needs.{needs}
-use Rattle.writer.proofs.entry.put_recording.Statement.{statement}
 use Rattle.writer.proofs.entry.put_recording.Tie as tie
 
 returns : tie.Need-returns

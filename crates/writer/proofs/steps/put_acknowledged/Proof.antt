@@ -1,7 +1,6 @@
 -- `put_acknowledged` meets its contract: its three steps stand one after the other. Assumes nothing.
-use Rattle.writer.proofs.PieceLaws.{and-then}
+use Rattle.writer.proofs.{PieceLaws.and-then, steps.put_acknowledged.Statement.statement}
 use borrow.Author.Needs.{needs}
-use Rattle.writer.proofs.steps.put_acknowledged.Statement.{statement}
 use Rattle.writer.proofs.steps.put_acknowledged.Tie as tie
 
 returns : tie.Need-returns

@@ -1,12 +1,9 @@
 -- `put_bits` meets its contract. The loop's invariant: what is left of the value, put down from here, makes the whole. Assumes nothing.
-use Prim.Native.Nat.{_≤_, _+_, _*_, _-_}
-use mathlib.Core.Path.{_≡_, refl, _∙_}
+use Rattle.answer.specs.Basics.{_+_, _-_, _*_, _≤_, length, _≡_}
+use mathlib.Core.Path.{refl, _∙_}
 use borrow.Author.Needs.{needs}
-use lib.ListN.{length}
-use Rattle.writer.specs.WrittenSteps.{bitSteps}
-use Rattle.writer.specs.Put.{withSteps}
-use Rattle.writer.proofs.BitLaws.{bit-goes-on, bits-put}
-use Rattle.writer.proofs.steps.put_bits.Statement.{statement}
+use Rattle.writer.specs.{WrittenSteps.bitSteps, Put.withSteps}
+use Rattle.writer.proofs.{BitLaws.bit-goes-on, BitLaws.bits-put, steps.put_bits.Statement.statement}
 use Rattle.writer.proofs.steps.put_bits.Tie as tie
 
 abbrev Inv-loop : tie.InvT-loop

@@ -1,8 +1,6 @@
 -- `put_byte` meets its contract: its pieces stand one after the other. Assumes nothing.
-use Rattle.writer.proofs.PieceLaws.{and-then}
-use Rattle.writer.proofs.ByteLaws.{byte-pieces}
+use Rattle.writer.proofs.{PieceLaws.and-then, ByteLaws.byte-pieces, steps.put_byte.Statement.statement}
 use borrow.Author.Needs.{needs}
-use Rattle.writer.proofs.steps.put_byte.Statement.{statement}
 use Rattle.writer.proofs.steps.put_byte.Tie as tie
 
 returns : tie.Need-returns

@@ -1,7 +1,6 @@
 -- `put_closing` meets its contract: the silence stands after the opening. Assumes nothing.
-use Rattle.writer.proofs.PieceLaws.{and-then}
+use Rattle.writer.proofs.{PieceLaws.and-then, steps.put_closing.Statement.statement}
 use borrow.Author.Needs.{needs}
-use Rattle.writer.proofs.steps.put_closing.Statement.{statement}
 use Rattle.writer.proofs.steps.put_closing.Tie as tie
 
 returns : tie.Need-returns

@@ -1,9 +1,8 @@
 -- `put_last_byte` meets its contract: its pieces stand one after the other. Assumes nothing.
 use native.Mathlib.Omega.{arith}
-use Rattle.writer.proofs.PieceLaws.{and-then}
-use Rattle.writer.proofs.ByteLaws.{byte-pieces, last-pieces, value-count}
+use Rattle.writer.proofs.{PieceLaws.and-then, ByteLaws.byte-pieces, ByteLaws.last-pieces, ByteLaws.value-count}
+use Rattle.writer.proofs.{steps.put_last_byte.Statement.statement}
 use borrow.Author.Needs.{needs}
-use Rattle.writer.proofs.steps.put_last_byte.Statement.{statement}
 use Rattle.writer.proofs.steps.put_last_byte.Tie as tie
 
 put-closing-requires : tie.Need-put-closing-requires

@@ -1,7 +1,6 @@
 -- `put_no_bytes` meets its contract: the acknowledgement stands after the opening. Assumes nothing.
-use Rattle.writer.proofs.PieceLaws.{and-then}
+use Rattle.writer.proofs.{PieceLaws.and-then, steps.put_no_bytes.Statement.statement}
 use borrow.Author.Needs.{needs}
-use Rattle.writer.proofs.steps.put_no_bytes.Statement.{statement}
 use Rattle.writer.proofs.steps.put_no_bytes.Tie as tie
 
 returns : tie.Need-returns

@@ -1,7 +1,6 @@
 -- `put_opening` meets its contract: its two steps stand one after the other. Assumes nothing.
-use Rattle.writer.proofs.PieceLaws.{and-then}
+use Rattle.writer.proofs.{PieceLaws.and-then, steps.put_opening.Statement.statement}
 use borrow.Author.Needs.{needs}
-use Rattle.writer.proofs.steps.put_opening.Statement.{statement}
 use Rattle.writer.proofs.steps.put_opening.Tie as tie
 
 returns : tie.Need-returns

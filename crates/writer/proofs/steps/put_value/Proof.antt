@@ -1,9 +1,7 @@
 -- `put_value` meets its contract: the wait for the take stands after the bits. Assumes nothing.
 use native.Mathlib.Omega.{arith}
-use Rattle.writer.proofs.BitLaws.{bits-count}
-use Rattle.writer.proofs.PieceLaws.{and-then}
+use Rattle.writer.proofs.{BitLaws.bits-count, PieceLaws.and-then, steps.put_value.Statement.statement}
 use borrow.Author.Needs.{needs}
-use Rattle.writer.proofs.steps.put_value.Statement.{statement}
 use Rattle.writer.proofs.steps.put_value.Tie as tie
 
 put-lines-requires : tie.Need-put-lines-requires

@@ -1,7 +1,6 @@
 -- `put_bytes` meets its contract: with no bytes the steps are those of the empty stream. Assumes nothing.
-use Rattle.writer.proofs.StringLaws.{no-bytes}
+use Rattle.writer.proofs.{StringLaws.no-bytes, string.put_bytes.Statement.statement}
 use borrow.Author.Needs.{needs}
-use Rattle.writer.proofs.string.put_bytes.Statement.{statement}
 use Rattle.writer.proofs.string.put_bytes.Tie as tie
 
 returns : tie.Need-returns

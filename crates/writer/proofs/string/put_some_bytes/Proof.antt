@@ -1,14 +1,11 @@
 -- `put_some_bytes` meets its contract. The loop's invariant: the bytes that are left, put down from here, make the whole. Assumes nothing.
-use Prim.Native.Nat.{_≤_, _*_, _-_}
-use mathlib.Core.Path.{_≡_, refl, sym, _∙_}
+use Rattle.answer.specs.Basics.{_-_, _*_, _≤_, length, drop, _≡_}
+use mathlib.Core.Path.{refl, sym, _∙_}
 use native.Mathlib.Omega.{arith}
 use borrow.Author.Needs.{needs}
-use lib.ListN.{length, drop}
-use Rattle.writer.specs.WrittenSteps.{writtenSteps}
-use Rattle.writer.specs.Put.{withSteps}
-use Rattle.writer.proofs.ByteLaws.{byte-next}
-use Rattle.writer.proofs.StringLaws.{byte-goes-on, last-put}
-use Rattle.writer.proofs.string.put_some_bytes.Statement.{statement}
+use Rattle.writer.specs.{WrittenSteps.writtenSteps, Put.withSteps}
+use Rattle.writer.proofs.{ByteLaws.byte-next, StringLaws.byte-goes-on, StringLaws.last-put}
+use Rattle.writer.proofs.{string.put_some_bytes.Statement.statement}
 use Rattle.writer.proofs.string.put_some_bytes.Tie as tie
 
 abbrev Inv-loop : tie.InvT-loop

@@ -1,10 +1,9 @@
 -- `total_ticks` meets its contract: the formula is the code's, and no sum is too large. Assumes nothing.
-use Prim.Native.Nat.{_+_, _-_}
+use Rattle.answer.specs.Basics.{_+_, _-_}
 use mathlib.Core.Path.{sym}
 use native.Mathlib.Omega.{arith}
-use Rattle.writer.proofs.TickLaws.{product-fits, ticks-none, ticks-some}
+use Rattle.writer.proofs.{TickLaws.product-fits, TickLaws.ticks-none, TickLaws.ticks-some, ticks.total_ticks.Statement.statement}
 use borrow.Author.Needs.{needs}
-use Rattle.writer.proofs.ticks.total_ticks.Statement.{statement}
 use Rattle.writer.proofs.ticks.total_ticks.Tie as tie
 
 returns : tie.Need-returns

@@ -1,5 +1,5 @@
 -- `case::Required::is_handed_over` is safe and ends. The bytes left are the measure. Assumes nothing.
-use Prim.Native.Nat.{_-_}
+use Rattle.answer.specs.Basics.{_-_}
 use borrow.Author.Needs.{needs}
 use Rattle.compare.proofs.case.Required.is_handed_over.Statement.{statement}
 use Rattle.compare.proofs.case.Required.is_handed_over.Tie as tie

@@ -1,8 +1,6 @@
 -- `classes::strings::fill_drawn` is safe and ends. The loop keeps the length; the places left are the measure. Assumes nothing.
-use Prim.Native.Nat.{_-_}
-use mathlib.Core.Path.{_≡_}
+use Rattle.answer.specs.Basics.{_-_, length, _≡_}
 use borrow.Author.Needs.{needs}
-use lib.ListN.{length}
 use Rattle.compare.proofs.classes.strings.fill_drawn.Statement.{statement}
 use Rattle.compare.proofs.classes.strings.fill_drawn.Tie as tie
 

@@ -1,8 +1,6 @@
 -- `made::pieces::put_bits` is safe and ends. The loop keeps the length; the bits left are the measure. Assumes nothing.
-use Prim.Native.Nat.{_-_}
-use mathlib.Core.Path.{_≡_}
+use Rattle.answer.specs.Basics.{_-_, length, _≡_}
 use borrow.Author.Needs.{needs}
-use lib.ListN.{length}
 use Rattle.compare.proofs.made.pieces.put_bits.Statement.{statement}
 use Rattle.compare.proofs.made.pieces.put_bits.Tie as tie
 

@@ -1,8 +1,7 @@
 -- `acknowledged` meets its contract. Assumes nothing.
 use Rattle.transfer.specs.Phases.{next}
-use Rattle.reader.proofs.Tests.{tests}
+use Rattle.reader.proofs.{Tests.tests, state.State.acknowledged.Statement.statement}
 use borrow.Author.Needs.{needs}
-use Rattle.reader.proofs.state.State.acknowledged.Statement.{statement}
 use Rattle.reader.proofs.state.State.acknowledged.Tie as tie
 
 pub acknowledged-spec : {M : Type 1} → statement M

@@ -1,8 +1,7 @@
 -- `acknowledgement` meets its contract. Assumes nothing.
 use Rattle.transfer.specs.Phases.{next}
-use Rattle.reader.proofs.Tests.{tests}
+use Rattle.reader.proofs.{Tests.tests, state.State.acknowledgement.Statement.statement}
 use borrow.Author.Needs.{needs}
-use Rattle.reader.proofs.state.State.acknowledgement.Statement.{statement}
 use Rattle.reader.proofs.state.State.acknowledgement.Tie as tie
 
 pub acknowledgement-spec : {M : Type 1} → statement M

@@ -1,9 +1,7 @@
 -- `byte` meets its contract. Assumes nothing.
-use Rattle.reader.proofs.Tests.{held-told, fits-told}
-use Rattle.reader.proofs.Endings.{none-held}
+use Rattle.reader.proofs.{Tests.held-told, Tests.fits-told, Endings.none-held, state.State.byte.Statement.statement}
 use native.Mathlib.Omega.{arith}
 use borrow.Author.Needs.{needs}
-use Rattle.reader.proofs.state.State.byte.Statement.{statement}
 use Rattle.reader.proofs.state.State.byte.Tie as tie
 
 pub byte-spec : {M : Type 1} → statement M

@@ -1,9 +1,8 @@
 -- `carried` meets its contract. Assumes nothing.
 use Rattle.transfer.specs.Phases.{next}
 use Rattle.reader.specs.States.{follow}
-use Rattle.reader.proofs.Tests.{tests}
+use Rattle.reader.proofs.{Tests.tests, state.State.carried.Statement.statement}
 use borrow.Author.Needs.{needs}
-use Rattle.reader.proofs.state.State.carried.Statement.{statement}
 use Rattle.reader.proofs.state.State.carried.Tie as tie
 
 pub carried-spec : {M : Type 1} → statement M

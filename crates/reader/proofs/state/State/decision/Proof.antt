@@ -1,9 +1,7 @@
 -- `decision` meets its contract. Assumes nothing.
 use mathlib.Core.Path.{_∙_}
-use Rattle.reader.proofs.Tests.{decision-told}
-use Rattle.reader.proofs.Endings.{cut-short}
+use Rattle.reader.proofs.{Tests.decision-told, Endings.cut-short, state.State.decision.Statement.statement}
 use borrow.Author.Needs.{needs}
-use Rattle.reader.proofs.state.State.decision.Statement.{statement}
 use Rattle.reader.proofs.state.State.decision.Tie as tie
 
 returns : tie.Need-returns

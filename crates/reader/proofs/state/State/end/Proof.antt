@@ -1,8 +1,7 @@
 -- `end` meets its contract. Assumes nothing.
 use Rattle.transfer.specs.Phases.{next}
-use Rattle.reader.proofs.Tests.{tests}
+use Rattle.reader.proofs.{Tests.tests, state.State.end.Statement.statement}
 use borrow.Author.Needs.{needs}
-use Rattle.reader.proofs.state.State.end.Statement.{statement}
 use Rattle.reader.proofs.state.State.end.Tie as tie
 
 pub end-spec : {M : Type 1} → statement M

@@ -1,7 +1,6 @@
 -- `go_below` meets its contract. Assumes nothing.
-use Rattle.reader.proofs.Tests.{tests}
+use Rattle.reader.proofs.{Tests.tests, state.State.go_below.Statement.statement}
 use borrow.Author.Needs.{needs}
-use Rattle.reader.proofs.state.State.go_below.Statement.{statement}
 use Rattle.reader.proofs.state.State.go_below.Tie as tie
 
 pub go-below-spec : {M : Type 1} → statement M

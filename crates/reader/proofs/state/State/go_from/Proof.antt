@@ -1,7 +1,6 @@
 -- `go_from` meets its contract. Assumes nothing.
-use Rattle.reader.proofs.Tests.{tests}
+use Rattle.reader.proofs.{Tests.tests, state.State.go_from.Statement.statement}
 use borrow.Author.Needs.{needs}
-use Rattle.reader.proofs.state.State.go_from.Statement.{statement}
 use Rattle.reader.proofs.state.State.go_from.Tie as tie
 
 pub go-from-spec : {M : Type 1} → statement M

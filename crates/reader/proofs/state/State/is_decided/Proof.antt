@@ -1,7 +1,6 @@
 -- `is_decided` meets its contract. Assumes nothing.
-use Rattle.reader.proofs.Endings.{undecided}
+use Rattle.reader.proofs.{Endings.undecided, state.State.is_decided.Statement.statement}
 use borrow.Author.Needs.{needs}
-use Rattle.reader.proofs.state.State.is_decided.Statement.{statement}
 use Rattle.reader.proofs.state.State.is_decided.Tie as tie
 
 pub is-decided-spec : {M : Type 1} → statement M

@@ -1,11 +1,9 @@
 -- `next` meets its contract. Assumes nothing.
-use Rattle.transfer.specs.Moves.{isDecided}
 use Rattle.transfer.proofs.Stages.{undecided-move}
-use Rattle.reader.specs.States.{follow, nextState}
-use Rattle.reader.proofs.TickLaws.{no-change}
-use mathlib.Core.Path.{_≡_, sym, ap, _∙_}
+use Rattle.reader.specs.States.{nextState}
+use Rattle.reader.proofs.{TickLaws.no-change, state.State.next.Statement.statement}
+use mathlib.Core.Path.{sym, _∙_}
 use borrow.Author.Needs.{needs}
-use Rattle.reader.proofs.state.State.next.Statement.{statement}
 use Rattle.reader.proofs.state.State.next.Tie as tie
 
 returns : tie.Need-returns

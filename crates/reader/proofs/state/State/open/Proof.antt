@@ -1,8 +1,7 @@
 -- `open` meets its contract. Assumes nothing.
 use Rattle.transfer.specs.Phases.{next}
-use Rattle.reader.proofs.Tests.{tests}
+use Rattle.reader.proofs.{Tests.tests, state.State.open.Statement.statement}
 use borrow.Author.Needs.{needs}
-use Rattle.reader.proofs.state.State.open.Statement.{statement}
 use Rattle.reader.proofs.state.State.open.Tie as tie
 
 pub open-spec : {M : Type 1} → statement M

@@ -1,8 +1,7 @@
 -- `ready_for_data` meets its contract. Assumes nothing.
 use Rattle.transfer.specs.Phases.{next}
-use Rattle.reader.proofs.Tests.{tests}
+use Rattle.reader.proofs.{Tests.tests, state.State.ready_for_data.Statement.statement}
 use borrow.Author.Needs.{needs}
-use Rattle.reader.proofs.state.State.ready_for_data.Statement.{statement}
 use Rattle.reader.proofs.state.State.ready_for_data.Tie as tie
 
 pub ready-for-data-spec : {M : Type 1} → statement M

@@ -1,8 +1,7 @@
 -- `rows` meets its contract. Assumes nothing.
 use Rattle.transfer.specs.Phases.{next}
-use Rattle.reader.proofs.Tests.{told}
+use Rattle.reader.proofs.{Tests.told, state.State.rows.Statement.statement}
 use borrow.Author.Needs.{needs}
-use Rattle.reader.proofs.state.State.rows.Statement.{statement}
 use Rattle.reader.proofs.state.State.rows.Tie as tie
 
 returns : tie.Need-returns

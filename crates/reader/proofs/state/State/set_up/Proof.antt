@@ -1,8 +1,7 @@
 -- `set_up` meets its contract. Assumes nothing.
 use Rattle.transfer.specs.Phases.{next}
-use Rattle.reader.proofs.Tests.{tests}
+use Rattle.reader.proofs.{Tests.tests, state.State.set_up.Statement.statement}
 use borrow.Author.Needs.{needs}
-use Rattle.reader.proofs.state.State.set_up.Statement.{statement}
 use Rattle.reader.proofs.state.State.set_up.Tie as tie
 
 pub set-up-spec : {M : Type 1} → statement M

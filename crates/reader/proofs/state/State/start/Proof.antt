@@ -1,8 +1,7 @@
 -- `start` meets its contract. Assumes nothing.
 use Rattle.transfer.specs.Phases.{next}
-use Rattle.reader.proofs.Tests.{tests}
+use Rattle.reader.proofs.{Tests.tests, state.State.start.Statement.statement}
 use borrow.Author.Needs.{needs}
-use Rattle.reader.proofs.state.State.start.Statement.{statement}
 use Rattle.reader.proofs.state.State.start.Tie as tie
 
 pub start-spec : {M : Type 1} → statement M

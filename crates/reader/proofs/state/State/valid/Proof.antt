@@ -1,8 +1,7 @@
 -- `valid` meets its contract. Assumes nothing.
 use Rattle.transfer.specs.Phases.{next}
-use Rattle.reader.proofs.Tests.{tests}
+use Rattle.reader.proofs.{Tests.tests, state.State.valid.Statement.statement}
 use borrow.Author.Needs.{needs}
-use Rattle.reader.proofs.state.State.valid.Statement.{statement}
 use Rattle.reader.proofs.state.State.valid.Tie as tie
 
 pub valid-spec : {M : Type 1} → statement M

@@ -1,8 +1,7 @@
 -- `Header::test` meets its contract: each return is a row of the definition. Assumes nothing.
 use Rattle.recording.specs.Form.{headerTest}
-use Rattle.recording.proofs.Tests.{tests}
+use Rattle.recording.proofs.{Tests.tests, header.Header.test.Statement.statement}
 use borrow.Author.Needs.{needs}
-use Rattle.recording.proofs.header.Header.test.Statement.{statement}
 use Rattle.recording.proofs.header.Header.test.Tie as tie
 
 returns : tie.Need-returns

@@ -1,7 +1,6 @@
 -- `Step::test` meets its contract: each return is a row of the definition. Assumes nothing.
 use Rattle.recording.specs.Form.{stepTest}
-use Rattle.recording.proofs.Tests.{tests}
-use Rattle.recording.proofs.step.Step.test.Statement.{statement}
+use Rattle.recording.proofs.{Tests.tests, step.Step.test.Statement.statement}
 use Rattle.recording.proofs.step.Step.test.Tie as tie
 
 returns : tie.Need-returns

@@ -1,11 +1,9 @@
 -- `Step::write` meets its contract: the duration and the two stores after it are one run. Assumes nothing.
 use native.Mathlib.Omega.{arith}
 use lib.ListN.{length-set}
-use Rattle.recording.specs.FileOf.{twoBytes, stepBytes}
-use Rattle.recording.specs.Layout.{stepPlace}
-use Rattle.recording.proofs.SetsLaws.{two-more}
+use Rattle.recording.specs.{FileOf.twoBytes, FileOf.stepBytes, Layout.stepPlace}
+use Rattle.recording.proofs.{SetsLaws.two-more, step.Step.write.Statement.statement}
 use borrow.Author.Needs.{needs}
-use Rattle.recording.proofs.step.Step.write.Statement.{statement}
 use Rattle.recording.proofs.step.Step.write.Tie as tie
 
 returns : tie.Need-returns
