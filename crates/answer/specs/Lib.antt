@@ -4,5 +4,4 @@ pub mod Types
 pub mod Text
 pub mod Numbers
 pub mod Answers
-pub mod Lent
 pub mod Names

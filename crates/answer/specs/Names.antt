@@ -1,7 +1,7 @@
 -- The word that the programs print for each of the numbers in Numbers.
 use Rattle.answer.specs.Basics.{ℕ, zero, suc, _≤_, List, [], _∷_, length, drop, _≡_, eqb, if_then_else_}
 use Prim.Native.String.{String}
-use Rattle.answer.specs.{Lent.first, Text.ascii, Text.space}
+use Rattle.answer.specs.{Answers.first, Text.ascii, Text.space}
 use Rattle.answer.specs.declared.names.Name.{Name}
 
 infix 70 _is_

@@ -1,10 +1,10 @@
 -- Document 01's numbers, "Numbers and what they leave": the one place where they stand.
 use Rattle.answer.specs.Basics.{ℕ, _≡_}
 use Rattle.answer.specs.Types.{Refusal, ShortFile, WrongVersion, TooManySteps, WrongOffset, WrongLength, ZeroDuration, StrayBits}
-use Rattle.answer.specs.Types.{WrongTotal, ShortBuffers, TooManyBytes, ShortDestination, EmptyStream, Attention, NoReceiver}
-use Rattle.answer.specs.Types.{BadStart, OutOfTurn, EndMarkNotAcknowledged, AcknowledgementShort, AcknowledgementLong, LateClock}
-use Rattle.answer.specs.Types.{SenderTimeout, ValidTimeShort, DataMoved, ClockStall, ReceiverTimeout, Hurried, MovedAfterEnd, Verdict}
-use Rattle.answer.specs.Types.{Complete, Cut, Broken}
+use Rattle.answer.specs.Types.{WrongTotal, ShortBuffers, TooManyBytes, ShortDestination, EmptyStream, Attention, NoReceiver, BadStart}
+use Rattle.answer.specs.Types.{OutOfTurn, EndMarkNotAcknowledged, AcknowledgementShort, AcknowledgementLong, LateClock, SenderTimeout}
+use Rattle.answer.specs.Types.{ValidTimeShort, DataMoved, ClockStall, ReceiverTimeout, Hurried, MovedAfterEnd, Verdict, Complete, Cut}
+use Rattle.answer.specs.Types.{Broken}
 
 -- "Refusals"; the definitions that give them say when.
 abbrev pub refusalNumber : Refusal → ℕ

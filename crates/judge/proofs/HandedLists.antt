@@ -4,7 +4,7 @@ use mathlib.Core.Path.{refl, sym, ap, ap₂, _∙_}
 use native.Mathlib.Omega.{arith}
 use lib.{ListN.length-set, Seq.sets, Seq.sets-eq}
 use borrow.Author.Tests.{eqb-true, eqb-false}
-use Rattle.answer.specs.Lent.{_over_}
+use Rattle.answer.specs.Answers.{_over_}
 use Rattle.transfer.specs.{Types.Byte, Pair.values, Moves.heldByte}
 use Rattle.reader.specs.declared.state.State.{State}
 use Rattle.reader.proofs.TickLaws.{OneTick}

@@ -2,7 +2,7 @@
 use Rattle.answer.specs.Basics.{ℕ, _≤_, List, length, _≡_}
 use mathlib.Core.Path.{sym, ap, ap₂, _∙_}
 use native.Mathlib.Nat.{zero-add}
-use Rattle.answer.specs.{Types.Answer, Lent._over_, Numbers.verdictNumber}
+use Rattle.answer.specs.{Types.Answer, Answers._over_, Numbers.verdictNumber}
 use Rattle.recording.specs.{Types.Good, Types.Step, Form.formOf, Ticks.stepsFrom}
 use Rattle.recording.proofs.GoodFormLaws.{good-form}
 use Rattle.reader.specs.{After.handedOver, States.firstState}

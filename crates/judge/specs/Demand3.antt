@@ -1,6 +1,6 @@
 -- Demand 3 about a file: the statement of the crate transfer (its specs/Demand3.antt), said of what the judge leaves.
 use Rattle.answer.specs.Basics.{ℕ, _≤_, List, [], _∷_, length, _≡_}
-use Rattle.answer.specs.Lent.{first}
+use Rattle.answer.specs.Answers.{first}
 use Rattle.recording.specs.GoodForm.{GoodForm}
 use Rattle.transfer.specs.{Types.Limits, Types.Byte, Demand3.Demand3}
 use Rattle.judge.specs.Judged.{Judged, byteRoom, ledgerRoom, tickList}

@@ -1,6 +1,6 @@
 -- What the judge answers and leaves, for any bytes and any lent buffers: document 01, "Numbers and what they leave".
 use Rattle.answer.specs.Basics.{ℕ, suc, _-_, List, [], _∷_, map, length, ltb, if_then_else_}
-use Rattle.answer.specs.{Types.Answer, Types.ShortBuffers, Answers.refused, Lent._over_, Numbers.verdictNumber}
+use Rattle.answer.specs.{Types.Answer, Types.ShortBuffers, Answers.refused, Answers._over_, Numbers.verdictNumber}
 use Rattle.recording.specs.{Form.formOf, Ticks.stepsOf, Ticks.ticks}
 use Rattle.recording.specs.Types.{Form, Good, Refused, Step}
 use Rattle.transfer.specs.{Lines.linesOf, Outcome.Outcome, Outcome.outcome, Pair.values}

@@ -1,6 +1,6 @@
 -- The reading of a recording as its functions go: what each of them promises to the entry.
 use Rattle.answer.specs.Basics.{ℕ, _+_, _*_, _^_, _≤_, _<_, List, length, set, _≡_, eqb, if_then_else_}
-use Rattle.answer.specs.{Types.Answer, Lent._over_}
+use Rattle.answer.specs.{Types.Answer, Answers._over_}
 use Rattle.recording.specs.{Types.Step, Layout.mostSteps, Layout.fileLength, Ticks.stepsFrom}
 use Rattle.reader.specs.{After.stateAfter, After.handedOver, States.firstState}
 use Rattle.transfer.specs.{Types.Limits, Types.Lines, Pair.values, Moves.heldByte, Moves.decisionOf}

@@ -4,8 +4,7 @@ use Rattle.answer.specs.Basics.{ℕ, false, List, [], _∷_, _≡_}
 use mathlib.Core.Path.{refl, sym, ap, subst}
 use denote.Enum.Declared.{tagOf}
 use types.Run.{OneOf, miss}
-use Rattle.transfer.specs.Decisions.{cutAt}
-use Rattle.transfer.specs.Moves.{Stage, hasFallen, isDecided, noByte, heldByte, decisionIn, decisionOf}
+use Rattle.transfer.specs.Moves.{cutAt, Stage, hasFallen, isDecided, noByte, heldByte, decisionIn, decisionOf}
 use Rattle.transfer.specs.Types.{Phase, Start, FirstHold, Hold, ReadyToSend, ReadyForData, Acknowledgement, Acknowledged, SetUp, Valid}
 use Rattle.transfer.specs.Types.{Open, Carried, End, Decided}
 use Rattle.transfer.proofs.phase.Phase.{the-type}

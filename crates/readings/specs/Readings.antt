@@ -1,8 +1,8 @@
 -- Where two rows of document 01 meet: tick lists whose outcomes show how it is read there, and on which tick each time falls.
 -- docs/DECISIONS.md gives the reasons.
 use Rattle.answer.specs.Basics.{ℕ, Bool, true, _&&_, List, [], _∷_, _++_, length, _≡_, eqb}
-use Rattle.transfer.specs.{Limits.standardLimits, Outcome.outcome, Spans.Span, Spans.ticks}
-use Rattle.transfer.specs.SampleSpans.{_∶_, opening, bits, till41, s1}
+use Rattle.transfer.specs.{Limits.standardLimits, Outcome.outcome}
+use Rattle.transfer.specs.Spans.{Span, ticks, _∶_, opening, bits, till41, s1}
 use Rattle.answer.specs.Numbers.{verdictNumber}
 
 -- The byte 0x80, from tick 0 to the CLK pull after bit 8, which is tick 1,630.
@@ -14,14 +14,8 @@ abbrev pub plain41 : List Span
 plain41 = 200 ∶ 6 ∷ 50 ∶ 4 ∷ 60 ∶ 0 ∷ bits (4 ∷ 0 ∷ 0 ∷ 0 ∷ 0 ∷ 0 ∷ 4 ∷ 0 ∷ [])
 
 -- A tick list, and the number, tick and count that it comes to.
-pub record Reading : Type 0 where
-  pub spans : List Span
-  pub number : ℕ
-  pub tick : ℕ
-  pub count : ℕ
-
-abbrev pub reads : List Span → (number tick count : ℕ) → Reading
-reads spans number tick count = record { spans = spans; number = number; tick = tick; count = count }
+pub data Reading : Type 0 where
+  reads : List Span → (number tick count : ℕ) → Reading
 
 abbrev pub readings : List Reading
 readings =
@@ -105,9 +99,9 @@ readings =
     ∷ []
 
 abbrev pub holds : Reading → Bool
-holds r =
-    let o = outcome standardLimits (ticks (r .spans)) in
-    eqb (verdictNumber (o .decision .verdict)) (r .number) && (eqb (o .decision .tick) (r .tick) && eqb (length (o .bytes)) (r .count))
+holds (reads spans number tick count) =
+    let o = outcome standardLimits (ticks spans) in
+    eqb (verdictNumber (o .decision .verdict)) number && (eqb (o .decision .tick) tick && eqb (length (o .bytes)) count)
 
 abbrev pub allHold : List Reading → Bool
 allHold [] = true

@@ -1,13 +1,12 @@
 -- Why the beginning decides for a file longer than any recording. Assumes nothing.
-use Rattle.answer.specs.Basics.{ℕ, zero, suc, _+_, _<_, Bool, true, false, List, [], _∷_, _++_, length, _≡_, ltb, differs}
-use Rattle.answer.specs.Basics.{if_then_else_}
+use Rattle.answer.specs.Basics.{ℕ, zero, suc, _+_, _<_, Bool, true, false, List, [], _∷_, _++_, length, _≡_, ltb, differs, if_then_else_}
 use mathlib.Core.Path.{refl}
 use native.Mathlib.Omega.{arith}
 use lib.ListN.{length-append}
 use borrow.Author.Tests.{ltb-false, le-ltb, ne-eqb}
-use Rattle.recording.specs.{Form.headerTest, Form.formOf, LongFiles.longestRecording, LongFiles.longRefusal, LongFiles.LongFormLaw}
+use Rattle.recording.specs.{Types.Header, Types.Passed, Types.Failed, Form.headerTest, Form.formOf, LongFiles.longestRecording}
+use Rattle.recording.specs.{LongFiles.longRefusal, LongFiles.LongFormLaw}
 use Rattle.recording.specs.Layout.{byteAt, u16At, u32At, headerAt, headerSize, goodVersion, mostSteps, fileLength}
-use Rattle.recording.specs.Types.{Header, Passed, Failed}
 use Rattle.answer.specs.Types.{WrongVersion, TooManySteps, WrongOffset, WrongLength}
 
 byte-before : (b r : List ℕ) (k : ℕ) → k < length b → byteAt (b ++ r) k ≡ byteAt b k

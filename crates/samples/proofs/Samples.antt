@@ -1,5 +1,4 @@
--- The starred samples hold, by one computation, and so do the further one and the refusals; S1's file is the one that document 01 prints.
--- Assumes nothing.
+-- All samples hold, by one computation; S1's file is the one that document 01 prints. Assumes nothing.
 use mathlib.Core.Path.{refl}
 use Rattle.recording.specs.FileOf.{headerBytes, stepBytes, stepsBytes, fileOf}
 use Rattle.recording.specs.Form.{headerTest, stepTest, stepsForm, bodyForm, formOf}
@@ -7,24 +6,13 @@ use Rattle.recording.specs.Ticks.{stepsFrom, stepsOf, totalTicks, ticks}
 use Rattle.transfer.specs.{Offsets.below, Offsets.upTo, Moves.move, Outcome.run}
 use Rattle.transfer.specs.Phases.{next, same, withBit, handover, afterBit}
 use Rattle.judge.specs.Judged.{stepHolding, twoTicks, judgedInForm, judged}
-use Rattle.samples.specs.Samples.{SamplesHold, CutAfterByteHolds, S1Printed, S1Ticks, RefusedSamplesHold}
+use Rattle.samples.specs.Samples.{SamplesHold, S1Printed, S1Ticks}
 
 pub samples-hold : SamplesHold
 unfolding below upTo next same withBit handover afterBit move run
     headerBytes stepBytes stepsBytes fileOf headerTest stepTest stepsForm bodyForm formOf
     stepsFrom stepsOf totalTicks ticks stepHolding twoTicks judgedInForm judged
 samples-hold = refl
-
-pub cut-after-byte-holds : CutAfterByteHolds
-unfolding below upTo next same withBit handover afterBit move run
-    headerBytes stepBytes stepsBytes fileOf headerTest stepTest stepsForm bodyForm formOf
-    stepsFrom stepsOf totalTicks ticks stepHolding twoTicks judgedInForm judged
-cut-after-byte-holds = refl
-
-pub refused-samples-hold : RefusedSamplesHold
-unfolding headerBytes stepBytes stepsBytes fileOf headerTest stepTest stepsForm bodyForm formOf
-    stepsFrom stepsOf totalTicks judgedInForm judged
-refused-samples-hold = refl
 
 pub s1-printed : S1Printed
 unfolding headerBytes stepBytes stepsBytes fileOf totalTicks

@@ -1,32 +1,39 @@
 -- Document 01, "Sample recordings": the starred ones, in its order, each judged as a whole file; a cut after a byte;
 -- and every refusal.
 use Rattle.answer.specs.Basics.{ℕ, List, [], _∷_, _++_, map, replicate, _≡_}
-use Rattle.answer.specs.{Types.Answer, Lent._over_}
+use Rattle.answer.specs.{Types.Answer, Answers._over_}
 use Rattle.recording.specs.{Types.Step, FileOf.headerBytes, FileOf.fileOf}
 use Rattle.recording.specs.SampleSteps.{_∶_, zeros, s1With, s1, s80With, s1File}
-use Rattle.transfer.specs.{Limits.standardLimits, SampleSpans.s1 as s1Spans, Spans.ticks}
+use Rattle.transfer.specs.{Limits.standardLimits, Spans.s1 as s1Spans, Spans.ticks}
 use Rattle.judge.specs.Judged.{Judged, leaves, tickLines, judged}
 
--- The steps of a recording, its answer, and what the two buffers then begin with.
-pub record Sample : Type 0 where
-  pub steps : List Step
-  pub answer : Answer
-  pub bytes : List ℕ
-  pub ledger : List ℕ
+-- A file and the buffers lent with it, the answer, and what the two buffers then begin with.
+pub data Sample : Type 0 where
+  sample : (file lent-bytes lent-ledger : List ℕ) → Answer → (bytes ledger : List ℕ) → Sample
 
--- A sample that hands no byte over, and one that is complete with a byte.
+abbrev pub judgedSample : Sample → Judged
+judgedSample (sample file lent-bytes lent-ledger answer bytes ledger) = judged standardLimits file lent-bytes lent-ledger
+
+abbrev pub expectedOf : Sample → Judged
+expectedOf (sample file lent-bytes lent-ledger answer bytes ledger) = leaves answer (bytes over lent-bytes) (ledger over lent-ledger)
+
+-- Buffers just large enough. Every place of them has a mark, so that a place which should have kept it is seen.
+abbrev pub markedBytes : List ℕ
+markedBytes = replicate 1000 0xA5
+
+abbrev pub markedLedger : List ℕ
+markedLedger = replicate 2000 0xA5A5A5A5
+
+-- The recording of some steps, judged with that room: one that hands no byte over, and one that is complete with a byte.
+abbrev pub judges : List Step → Answer → (bytes ledger : List ℕ) → Sample
+judges steps answer bytes ledger = sample (fileOf steps) markedBytes markedLedger answer bytes ledger
+
 abbrev pub stops : List Step → (number tick step : ℕ) → Sample
-stops steps number tick step =
-    record { steps = steps; answer = record { number = number; tick = tick; step = step; count = 0 }; bytes = []; ledger = [] }
+stops steps number tick step = judges steps (record { number = number; tick = tick; step = step; count = 0 }) [] []
 
 abbrev pub sends : List Step → (tick step value let-go take : ℕ) → Sample
 sends steps tick step value let-go take =
-    record {
-      steps = steps;
-      answer = record { number = 20; tick = tick; step = step; count = 1 };
-      bytes = value ∷ [];
-      ledger = let-go ∷ take ∷ [];
-    }
+    judges steps (record { number = 20; tick = tick; step = step; count = 1 }) (value ∷ []) (let-go ∷ take ∷ [])
 
 abbrev pub samples : List Sample
 samples =
@@ -55,37 +62,6 @@ samples =
     ∷ stops (s1With 220 80 40 60 99) 36 1759 23
     ∷ []
 
--- The buffers that are lent, just large enough. Every place of them has a mark, so that a place which should have kept it is seen.
-abbrev pub markedBytes : List ℕ
-markedBytes = replicate 1000 0xA5
-
-abbrev pub markedLedger : List ℕ
-markedLedger = replicate 2000 0xA5A5A5A5
-
-abbrev pub judgedSample : Sample → Judged
-judgedSample s = judged standardLimits (fileOf (s .steps)) markedBytes markedLedger
-
-abbrev pub expectedOf : Sample → Judged
-expectedOf s = leaves (s .answer) (s .bytes over markedBytes) (s .ledger over markedLedger)
-
-abbrev pub SamplesHold : Type 0
-SamplesHold = map judgedSample samples ≡ map expectedOf samples
-
--- Beyond these: the byte 0x41 as one that is not the last, cut in phase C. It was handed over, so that 22 has a count here.
-abbrev pub cutAfterByte : Sample
-cutAfterByte =
-    record {
-      steps =
-          200 ∶ 6 ∷ 50 ∶ 4 ∷ 60 ∶ 0 ∷ 70 ∶ 6 ∷ 60 ∶ 4
-          ∷ (zeros 5 ++ (70 ∶ 6 ∷ 60 ∶ 4 ∷ 70 ∶ 2 ∷ 60 ∶ 0 ∷ 30 ∶ 2 ∷ 200 ∶ 6 ∷ 50 ∶ 4 ∷ []));
-      answer = record { number = 22; tick = 1630; step = 22; count = 1 };
-      bytes = 0x41 ∷ [];
-      ledger = 1350 ∷ 1380 ∷ [];
-    }
-
-abbrev pub CutAfterByteHolds : Type 0
-CutAfterByteHolds = judgedSample cutAfterByte ≡ expectedOf cutAfterByte
-
 -- S1's file is the one that document 01 prints.
 abbrev pub S1Printed : Type 0
 S1Printed = fileOf s1 ≡ s1File
@@ -94,49 +70,48 @@ S1Printed = fileOf s1 ≡ s1File
 abbrev pub S1Ticks : Type 0
 S1Ticks = tickLines s1 ≡ ticks s1Spans
 
--- A file and lent buffers that are refused, with the number and the step; the rest of the answer is 0, and the buffers keep what they held.
-pub record RefusedSample : Type 0 where
-  pub file : List ℕ
-  pub bytes : List ℕ
-  pub ledger : List ℕ
-  pub number : ℕ
-  pub step : ℕ
-
--- One that is refused before the room is looked at: no place is lent.
-abbrev pub refusedForm : (file : List ℕ) (number step : ℕ) → RefusedSample
-refusedForm file number step = record { file = file; bytes = []; ledger = []; number = number; step = step }
-
 -- A header and nothing after it.
 abbrev pub headerOnly : (version steps offset total size : ℕ) → List ℕ
 headerOnly version steps offset total size =
     headerBytes (record { version = version; steps = steps; offset = offset; total = total; length = size })
 
-abbrev pub refusedSamples : List RefusedSample
-refusedSamples =
+-- Beyond these: the byte 0x41 as one that is not the last, cut in phase C. It was handed over, so that 22 has a count here.
+abbrev pub cutAfterByte : Sample
+cutAfterByte =
+    judges
+    (200 ∶ 6 ∷ 50 ∶ 4 ∷ 60 ∶ 0 ∷ 70 ∶ 6 ∷ 60 ∶ 4
+    ∷ (zeros 5 ++ (70 ∶ 6 ∷ 60 ∶ 4 ∷ 70 ∶ 2 ∷ 60 ∶ 0 ∷ 30 ∶ 2 ∷ 200 ∶ 6 ∷ 50 ∶ 4 ∷ [])))
+    (record { number = 22; tick = 1630; step = 22; count = 1 }) (0x41 ∷ []) (1350 ∷ 1380 ∷ [])
+
+-- A file that is refused: tick and count are 0, and the buffers keep what they held.
+abbrev pub refuses : (file lent-bytes lent-ledger : List ℕ) (number step : ℕ) → Sample
+refuses file lent-bytes lent-ledger number step =
+    sample file lent-bytes lent-ledger (record { number = number; tick = 0; step = step; count = 0 }) [] []
+
+-- And every refusal. 1 to 8 fall before the room is looked at, so no place is lent.
+abbrev pub refusals : List Sample
+refusals =
     -- 1 to 5; where a file has several faults, the earliest test decides. A true length may be too long or too short.
-    refusedForm [] 1 0
-    ∷ refusedForm (replicate 15 0) 1 0
-    ∷ refusedForm (headerOnly 2 16001 17 1 0) 2 0
-    ∷ refusedForm (headerOnly 1 16001 17 1 0) 3 0
-    ∷ refusedForm (headerOnly 1 16000 17 1 0) 4 0
-    ∷ refusedForm (headerOnly 1 0 16 1 17) 5 0
-    ∷ refusedForm (fileOf [] ++ (0 ∷ [])) 5 0
-    ∷ refusedForm (headerOnly 1 1 16 1 20) 5 0
+    refuses [] [] [] 1 0
+    ∷ refuses (replicate 15 0) [] [] 1 0
+    ∷ refuses (headerOnly 2 16001 17 1 0) [] [] 2 0
+    ∷ refuses (headerOnly 1 16001 17 1 0) [] [] 3 0
+    ∷ refuses (headerOnly 1 16000 17 1 0) [] [] 4 0
+    ∷ refuses (headerOnly 1 0 16 1 17) [] [] 5 0
+    ∷ refuses (fileOf [] ++ (0 ∷ [])) [] [] 5 0
+    ∷ refuses (headerOnly 1 1 16 1 20) [] [] 5 0
     -- 6 and 7 name the step; 6 comes before 7 in one step, and an earlier step before a later one.
-    ∷ refusedForm (fileOf (200 ∶ 6 ∷ 0 ∶ 16 ∷ [])) 6 1
-    ∷ refusedForm (fileOf (200 ∶ 6 ∷ 50 ∶ 16 ∷ 0 ∶ 4 ∷ [])) 7 1
-    ∷ refusedForm (fileOf (200 ∶ 6 ∷ 50 ∶ 4 ∷ record { duration = 60; lines = 0; last = 1 } ∷ [])) 7 2
-    ∷ refusedForm (headerOnly 1 0 16 1 16) 8 0
+    ∷ refuses (fileOf (200 ∶ 6 ∷ 0 ∶ 16 ∷ [])) [] [] 6 1
+    ∷ refuses (fileOf (200 ∶ 6 ∷ 50 ∶ 16 ∷ 0 ∶ 4 ∷ [])) [] [] 7 1
+    ∷ refuses (fileOf (200 ∶ 6 ∷ 50 ∶ 4 ∷ record { duration = 60; lines = 0; last = 1 } ∷ [])) [] [] 7 2
+    ∷ refuses (headerOnly 1 0 16 1 16) [] [] 8 0
     -- 9: 999 and 1,999 places.
-    ∷ record { file = s1File; bytes = replicate 999 0xA5; ledger = markedLedger; number = 9; step = 0 }
-    ∷ record { file = s1File; bytes = markedBytes; ledger = replicate 1999 0xA5A5A5A5; number = 9; step = 0 }
+    ∷ refuses s1File (replicate 999 0xA5) markedLedger 9 0
+    ∷ refuses s1File markedBytes (replicate 1999 0xA5A5A5A5) 9 0
     ∷ []
 
-abbrev pub judgedRefused : RefusedSample → Judged
-judgedRefused r = judged standardLimits (r .file) (r .bytes) (r .ledger)
+abbrev pub all : List Sample
+all = samples ++ (cutAfterByte ∷ refusals)
 
-abbrev pub expectedRefused : RefusedSample → Judged
-expectedRefused r = leaves (record { number = r .number; tick = 0; step = r .step; count = 0 }) (r .bytes) (r .ledger)
-
-abbrev pub RefusedSamplesHold : Type 0
-RefusedSamplesHold = map judgedRefused refusedSamples ≡ map expectedRefused refusedSamples
+abbrev pub SamplesHold : Type 0
+SamplesHold = map judgedSample all ≡ map expectedOf all

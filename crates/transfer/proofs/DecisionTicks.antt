@@ -3,9 +3,9 @@ use Rattle.answer.specs.Basics.{ℕ, suc, _+_, _≤_, _<_, Bool, true, false, L
 use native.Mathlib.Omega.{arith}
 use mathlib.Core.Bool.{true≢false}
 use mathlib.Core.Path.{refl, sym, ap, _∙_}
-use Rattle.transfer.specs.{Outcome.onward, Outcome.run, Outcome.outcome, Decisions.cutAt}
+use Rattle.transfer.specs.Outcome.{onward, run, outcome}
+use Rattle.transfer.specs.Moves.{cutAt, Stage, Running, Ended, Fallen, stage, hasFallen, isDecided, decisionIn}
 use Rattle.transfer.specs.Phases.{Move, Go, Hand, Stop}
-use Rattle.transfer.specs.Moves.{Stage, Running, Ended, Fallen, stage, hasFallen, isDecided, decisionIn}
 use Rattle.transfer.specs.Types.{Limits, Lines, Phase, Start, Decision}
 use Rattle.answer.specs.Types.{Verdict, Complete, Cut, Broken}
 use Rattle.transfer.proofs.Stages.{undecided}

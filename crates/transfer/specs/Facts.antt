@@ -1,6 +1,6 @@
 -- Facts that keep the statements from being empty or wide.
 use Rattle.answer.specs.Basics.{ℕ, _≤_, _<_, Bool, true, false, List, [], _∷_, length, _≡_}
-use Rattle.transfer.specs.{Types.Limits, Types.Byte, Limits.standardLimits, Demand3.Explains, Demand3.Explained, SampleSpans.s1}
+use Rattle.transfer.specs.{Types.Limits, Types.Byte, Limits.standardLimits, Demand3.Explains, Demand3.Explained, Spans.s1}
 use Rattle.transfer.specs.{Spans.ticks}
 use Rattle.transfer.specs.Parties.{Bit, last, Plan, planBytes}
 use Rattle.transfer.specs.Pair.{SenderPulls, Pair, senderTrack, receiverTrack, gives}

@@ -4,11 +4,9 @@ pub mod Lines
 pub mod Limits
 pub mod Offsets
 pub mod Phases
-pub mod Decisions
 pub mod Moves
 pub mod Outcome
 pub mod Spans
-pub mod SampleSpans
 pub mod Parties
 pub mod Rules
 pub mod Pair

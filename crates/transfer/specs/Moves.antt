@@ -1,9 +1,9 @@
 -- What a tick does, and what the recording comes to where it runs out.
 use Rattle.answer.specs.Basics.{ℕ, _+_, Bool, true, false, if_then_else_}
-use Rattle.transfer.specs.{Phases.Move, Phases.Stop, Phases.next, Decisions.completeAt, Decisions.cutAt, Decisions.brokenAt}
+use Rattle.transfer.specs.Phases.{Move, Stop, next}
 use Rattle.transfer.specs.Types.{Limits, Lines, Byte, Phase, Start, FirstHold, Hold, ReadyToSend, ReadyForData, Acknowledgement}
 use Rattle.transfer.specs.Types.{Acknowledged, SetUp, Valid, Open, Carried, End, Decided, Decision}
-use Rattle.answer.specs.Types.{Fault, Attention}
+use Rattle.answer.specs.Types.{Fault, Attention, Complete, Cut, Broken}
 
 -- How far a transfer has come, for whatever asks only that: it is running, the stream is finished, or a verdict has fallen.
 pub data Stage : Type 0 where
@@ -65,6 +65,16 @@ heldByte (Open end-mark value since let-go) = noByte
 heldByte (Carried end-mark value since) = record { value = value; «let_go» = since + 1; take = since + 1 }
 heldByte (End finish) = noByte
 heldByte (Decided fault) = noByte
+
+-- "A verdict carries the deciding tick .. (20: the finish tick; 22: total ticks ..)."
+abbrev pub completeAt : (finish : ℕ) → Decision
+completeAt finish = record { verdict = Complete; tick = finish }
+
+abbrev pub cutAt : (total : ℕ) → Decision
+cutAt total = record { verdict = Cut; tick = total }
+
+abbrev pub brokenAt : Fault → (tick : ℕ) → Decision
+brokenAt fault tick = record { verdict = Broken fault; tick = tick }
 
 -- "The recording running out gives 20 in E, 22 anywhere else." 20 carries the finish tick, 22 the total of ticks, any
 -- other verdict the tick that decided.

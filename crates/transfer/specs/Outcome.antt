@@ -1,7 +1,7 @@
 -- The outcome of a tick list: verdict, deciding tick, the bytes handed over and for each its two ledger ticks. "Reading goes from state to
 -- state, one tick after another, and stops for good at the deciding tick."
 use Rattle.answer.specs.Basics.{ℕ, suc, List, [], _∷_}
-use Rattle.transfer.specs.{Moves.move, Moves.decisionOf, Decisions.brokenAt}
+use Rattle.transfer.specs.Moves.{move, decisionOf, brokenAt}
 use Rattle.transfer.specs.Phases.{Move, Go, Hand, Stop}
 use Rattle.transfer.specs.Types.{Limits, Lines, Byte, Phase, Start, Decision}
 use Rattle.answer.specs.Types.{Fault}

@@ -1,6 +1,6 @@
 // What a recording comes to.
 ghost use mathlib.Core.Path.{_≡_};
-ghost use Rattle.transfer.specs.Decisions.{completeAt, cutAt, brokenAt};
+ghost use Rattle.transfer.specs.Moves.{completeAt, cutAt, brokenAt};
 use answer::Fault;
 use answer::Verdict;
 

@@ -5,7 +5,7 @@ use native.Mathlib.{Nat.add-zero, Nat.zero-add, Nat.sub-zero, Numerals.add-one, 
 use borrow.Author.Tests.{lt-ltb, le-ltb}
 use lib.ListN.{length-set, length-take}
 use lib.Seq.{take-nil, drop-nil, sets, sets-eq}
-use Rattle.answer.specs.Lent.{_over_}
+use Rattle.answer.specs.Answers.{_over_}
 use Rattle.vcd.specs.Dumped.{piece}
 use Rattle.vcd.specs.Put.{Held, held, windowAt, putByte, put, Puts}
 use Rattle.vcd.specs.declared.window.Window.{Window}

@@ -1,6 +1,7 @@
 -- What the entry answers and leaves, for any bytes, any offset and any destination.
 use Rattle.answer.specs.Basics.{ℕ, List, length, drop}
-use Rattle.answer.specs.{Types.Answer, Answers.refused, Answers.accepted, Lent._over_, Lent.first}
+use Rattle.answer.specs.Types.{Answer}
+use Rattle.answer.specs.Answers.{refused, accepted, _over_, first}
 use Rattle.recording.specs.{Types.Form, Types.Good, Types.Refused, Form.formOf, Ticks.stepsOf}
 use Rattle.vcd.specs.Dump.{dump}
 

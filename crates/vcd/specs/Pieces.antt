@@ -1,6 +1,6 @@
 -- The pieces that a caller asks for one after another are the dump.
 use Rattle.answer.specs.Basics.{ℕ, _+_, _≤_, List, _++_, length, drop, _≡_, _↔_}
-use Rattle.answer.specs.Lent.{first}
+use Rattle.answer.specs.Answers.{first}
 use Rattle.recording.specs.{GoodForm.GoodForm, Ticks.stepsOf}
 use Rattle.vcd.specs.{Dump.dump, Dumped.Dumped, Dumped.dumped}
 

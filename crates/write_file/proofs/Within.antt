@@ -3,7 +3,7 @@ use Rattle.answer.specs.Basics.{ℕ, _≤_, Bool, true, false, List, length, _�
 use mathlib.Core.Path.{refl, ap, sym}
 use native.Mathlib.Omega.{arith}
 use borrow.Author.Tests.{ltb-false}
-use Rattle.answer.specs.{Types.Answer, Types.TooManyBytes, Types.ShortDestination, Answers.refused, Answers.accepted, Lent._over_}
+use Rattle.answer.specs.{Types.Answer, Types.TooManyBytes, Types.ShortDestination, Answers.refused, Answers.accepted, Answers._over_}
 use Rattle.writer.specs.Card.{standardCard}
 use Rattle.writer.specs.Written.{mostBytes, writtenLength, recordingOf, Written, leaves, written}
 

@@ -2,7 +2,7 @@
 use Rattle.answer.specs.Basics.{ℕ, _≤_, List, [], _∷_, length}
 use mathlib.Core.Path.{refl, sym, ap, subst⁻¹, _∙_}
 use native.Mathlib.Omega.{arith}
-use Rattle.answer.specs.{Lent._over_, Numbers.verdictNumber}
+use Rattle.answer.specs.{Answers._over_, Numbers.verdictNumber}
 use Rattle.recording.specs.{Types.Step, FileOf.FileOf, GoodForm.Bytes, Ticks.stepsOf}
 use Rattle.recording.proofs.{FileOfLaws.file-of, FileOfLaws.file-length, GoodFormLaws.good-form}
 use Rattle.transfer.specs.{Limits.standardLimits, Outcome.Outcome, Outcome.outcome}
@@ -11,7 +11,7 @@ use Rattle.judge.proofs.{JudgedLaws.is-verdict, LedgerLists.length-values}
 use Rattle.writer.specs.{Card.standardCard, ReadBack.ReadAs, ReadBack.ReadBackLaw, Written.mostBytes, Written.recordingOf}
 use Rattle.writer.specs.{Written.CountedLaw, WrittenSteps.writtenSteps}
 use Rattle.writer.proofs.{SentComplete.writtenLines, SentComplete.sent-complete, SentComplete.empty-outcome}
-use Rattle.writer.proofs.{StringLaws.written-count, WrittenRecordable.written-recordable}
+use Rattle.writer.proofs.{StringLaws.written-count, TickLaws.written-ticks, WrittenRecordable.written-recordable}
 
 -- A verdict over the ticks that are put down for a string, with exactly its bytes.
 read-string : (steps : List Step) (string : List ℕ) → Bytes string → (bytes ledger : List ℕ)
@@ -37,7 +37,7 @@ pub counted : CountedLaw
 unfolding recordingOf
 counted card string =
     let count = written-count card string in
-    record { steps = count; bytes = file-length (writtenSteps card string) ∙ omega arith }
+    record { steps = count; bytes = file-length (writtenSteps card string) ∙ omega arith; ticks = written-ticks card string }
 
 pub read-back : ReadBackLaw
 unfolding recordingOf

@@ -1,12 +1,12 @@
 -- The number of ticks of a written recording. Assumes nothing.
-use Rattle.answer.specs.Basics.{ℕ, suc, _+_, _-_, _*_, _≤_, List, [], _∷_, length, _≡_}
-use mathlib.Core.Path.{refl}
+use Rattle.answer.specs.Basics.{ℕ, zero, suc, _+_, _-_, _*_, _≤_, List, [], _∷_, length, replicate, _≡_}
+use mathlib.Core.Path.{refl, ap, sym, _∙_}
+use lib.ListN.{length-replicate}
 use native.Mathlib.{Nat.mul-le-mul, Nat.suc-mul, Omega.arith}
-use borrow.Author.Tests.{eq-eqb, ne-eqb}
 use Rattle.recording.specs.{Types.Step, Ticks.totalTicks}
 use Rattle.recording.proofs.StepLaws.{total-append}
+use Rattle.writer.specs.Written.{writtenTicks}
 use Rattle.writer.specs.WrittenSteps.{bitSteps, byteSteps, plainGap, endGap, sentSteps, writtenSteps}
-use Rattle.writer.specs.WrittenTicks.{openingTicks, acknowledgedTicks, valueTicks, sentTicks, writtenTicks, WrittenTicksLaw}
 use Rattle.writer.specs.declared.card.Card.{Card}
 use Rattle.writer.proofs.ByteLaws.{byte-pieces}
 
@@ -14,14 +14,23 @@ use Rattle.writer.proofs.ByteLaws.{byte-pieces}
 pub product-fits : (others ticks : ℕ) → others ≤ 798 → ticks ≤ 20 * 65535 → others * ticks ≤ 798 * (20 * 65535)
 product-fits others ticks few short = mul-le-mul few short
 
-pub ticks-none : (card : Card) (count : ℕ) → count ≡ 0
-    → writtenTicks card count ≡ openingTicks card + acknowledgedTicks card (card .«no_response»)
-unfolding writtenTicks
-ticks-none card count none = rw (eq-eqb count 0 none)
+module _ (card : Card) where
+  -- The sums of src/ticks.rt.
+  abbrev pub openingTicks : ℕ
+  openingTicks = card .hold + card .«ready_to_send»
 
-pub ticks-some : (card : Card) (count : ℕ) → (count ≡ 0 → ⊥) → writtenTicks card count ≡ sentTicks card (count - 1)
-unfolding writtenTicks
-ticks-some card count some = rw (ne-eqb count 0 some)
+  abbrev pub acknowledgedTicks : (after : ℕ) → ℕ
+  acknowledgedTicks after = card .«end_gap» + card .acknowledgement + after
+
+  abbrev pub valueTicks : ℕ
+  valueTicks = 8 * (card .«set_up» + card .valid) + card .take
+
+  -- One byte and so many others.
+  abbrev pub sentTicks : (others : ℕ) → ℕ
+  sentTicks others =
+      others * (openingTicks + card .gap + valueTicks)
+      + (openingTicks + acknowledgedTicks (card .response) + valueTicks)
+      + (openingTicks + card .silence)
 
 one-more : (n byte last closing : ℕ) → byte + (n * byte + last + closing) ≡ suc n * byte + last + closing
 one-more n byte last closing = rw (suc-mul n byte) (omega arith)
@@ -45,10 +54,21 @@ module _ (card : Card) where
       let byte : totalTicks (byteSteps card (plainGap card) first) ≡ openingTicks card + card .gap + valueTicks card = omega arith in
       rw (total-append (byteSteps card (plainGap card) first), byte, sent-ticks second others) (one-more (length others) _ _ _)
 
-pub written-ticks : WrittenTicksLaw
+pub ticks-none : (card : Card) (count : ℕ) → count ≡ 0
+    → writtenTicks card count ≡ openingTicks card + acknowledgedTicks card (card .«no_response»)
 unfolding totalTicks writtenSteps
-written-ticks card [] = rw (ticks-none card 0 refl) (omega arith)
-written-ticks card (first ∷ others) =
-    let n = length others in
-    let others-count : suc n - 1 ≡ n = omega arith in
-    rw (ticks-some card (suc n) (λ none. omega arith), others-count) (sent-ticks card first others)
+ticks-none card count none = rw none (omega arith)
+
+-- One zero and n others.
+zeros-ticks : (card : Card) (n : ℕ) → writtenTicks card (suc n) ≡ sentTicks card n
+unfolding writtenSteps
+zeros-ticks card n = sent-ticks card 0 (replicate n 0) ∙ ap (sentTicks card) (length-replicate {A = ℕ} n 0)
+
+pub ticks-some : (card : Card) (count : ℕ) → (count ≡ 0 → ⊥) → writtenTicks card count ≡ sentTicks card (count - 1)
+ticks-some card zero some = absurd (some refl)
+ticks-some card (suc n) some = zeros-ticks card n ∙ ap (sentTicks card) (omega arith)
+
+pub written-ticks : (card : Card) (bytes : List ℕ) → totalTicks (writtenSteps card bytes) ≡ writtenTicks card (length bytes)
+unfolding writtenSteps
+written-ticks card [] = refl
+written-ticks card (first ∷ others) = sent-ticks card first others ∙ sym (zeros-ticks card (length others))

@@ -4,15 +4,15 @@ use mathlib.Core.Path.{sym, ap, subst⁻¹, _∙_}
 use native.Mathlib.{Nat.zero-add, Omega.arith}
 use borrow.Author.Tests.{lt-ltb, le-ltb}
 use lib.Seq.{sets, sets-eq, take-append-seam}
-use Rattle.answer.specs.{Types.Refusal, Types.TooManyBytes, Types.ShortDestination, Answers.refused, Answers.accepted, Lent._over_}
-use Rattle.answer.specs.{Lent.first}
+use Rattle.answer.specs.Types.{Refusal, TooManyBytes, ShortDestination}
+use Rattle.answer.specs.Answers.{refused, accepted, _over_, first}
 use Rattle.recording.specs.{Types.Header, Types.Step, GoodForm.Bytes, Layout.fileLength, Ticks.totalTicks}
 use Rattle.recording.specs.FileOf.{headerBytes, stepsBytes, goodHeader, fileOf}
 use Rattle.recording.proofs.{SetsLaws.sets-append, FileOfLaws.header-length, FileOfLaws.file-length}
 use Rattle.transfer.specs.Limits.{standardLimits}
 use Rattle.writer.specs.{Card.standardCard, WrittenSteps.writtenSteps, ReadBack.ReadsBack, ReadBack.Writable, Promise.WritePromise}
-use Rattle.writer.specs.{WrittenTicks.writtenTicks, Put.withSteps}
-use Rattle.writer.specs.Written.{mostBytes, writtenStepCount, writtenLength, recordingOf, Written, leaves, written}
+use Rattle.writer.specs.{Put.withSteps}
+use Rattle.writer.specs.Written.{writtenTicks, mostBytes, writtenStepCount, writtenLength, recordingOf, Written, leaves, written}
 use Rattle.writer.specs.declared.card.Card.{Card}
 use Rattle.writer.proofs.{StringLaws.written-count, TickLaws.written-ticks, ReadBack.counted, ReadBack.read-back}
 

@@ -6,4 +6,3 @@ pub mod ReadBack
 pub mod Promise
 pub mod Samples
 pub mod Put
-pub mod WrittenTicks

@@ -1,6 +1,6 @@
 -- What an entry promises that writes a recording: of the answer and of the destination, whole, as the call leaves them.
 use Rattle.answer.specs.Basics.{ℕ, List, _≡_}
-use Rattle.answer.specs.Lent.{first}
+use Rattle.answer.specs.Answers.{first}
 use Rattle.transfer.specs.Types.{Limits}
 use Rattle.writer.specs.{ReadBack.ReadsBack, ReadBack.Writable, Written.Written, Written.written}
 use Rattle.writer.specs.declared.card.Card.{Card}

@@ -1,6 +1,6 @@
 -- Demand 2: what the writer put down, the judge reads back. It is stated over what the judge gives, and so over document 01's phases.
 use Rattle.answer.specs.Basics.{ℕ, _≤_, List, [], _∷_, length, _≡_}
-use Rattle.answer.specs.Lent.{_over_}
+use Rattle.answer.specs.Answers.{_over_}
 use Rattle.recording.specs.GoodForm.{Bytes}
 use Rattle.transfer.specs.{Types.Limits, Limits.standardLimits}
 use Rattle.judge.specs.Judged.{Judged, byteRoom, ledgerRoom, judged}

@@ -19,16 +19,8 @@ abbrev pub WritesTwoBytes : Type 0
 WritesTwoBytes = recordingOf standardCard (0x41 ∷ 0x80 ∷ []) ≡ fileOf twoByteSteps
 
 -- The bytes and the destination that the writer is given, its number and count, and what the destination then holds.
-pub record Writing : Type 0 where
-  pub bytes : List ℕ
-  pub destination : List ℕ
-  pub number : ℕ
-  pub count : ℕ
-  pub holds : List ℕ
-
-abbrev pub writing : (bytes destination : List ℕ) (number count : ℕ) (holds : List ℕ) → Writing
-writing bytes destination number count holds =
-    record { bytes = bytes; destination = destination; number = number; count = count; holds = holds }
+pub data Writing : Type 0 where
+  writing : (bytes destination : List ℕ) (number count : ℕ) (holds : List ℕ) → Writing
 
 abbrev pub writings : List Writing
 writings =
@@ -43,10 +35,11 @@ writings =
     ∷ []
 
 abbrev pub writtenFor : Writing → Written
-writtenFor w = written standardCard (w .bytes) (w .destination)
+writtenFor (writing bytes destination number count holds) = written standardCard bytes destination
 
 abbrev pub expectedFor : Writing → Written
-expectedFor w = leaves (record { number = w .number; tick = 0; step = 0; count = w .count }) (w .holds)
+expectedFor (writing bytes destination number count holds) =
+    leaves (record { number = number; tick = 0; step = 0; count = count }) holds
 
 abbrev pub WritingsHold : Type 0
 WritingsHold = map writtenFor writings ≡ map expectedFor writings

@@ -1,7 +1,7 @@
 -- What the writer answers and leaves, for any bytes and any destination.
-use Rattle.answer.specs.Basics.{ℕ, _+_, _*_, List, length, _≡_, ltb, if_then_else_}
-use Rattle.answer.specs.{Types.Answer, Types.TooManyBytes, Types.ShortDestination, Answers.refused, Answers.accepted, Lent._over_}
-use Rattle.recording.specs.FileOf.{fileOf}
+use Rattle.answer.specs.Basics.{ℕ, _+_, _*_, List, length, replicate, _≡_, ltb, if_then_else_}
+use Rattle.answer.specs.{Types.Answer, Types.TooManyBytes, Types.ShortDestination, Answers.refused, Answers.accepted, Answers._over_}
+use Rattle.recording.specs.{FileOf.fileOf, Ticks.totalTicks}
 use Rattle.writer.specs.WrittenSteps.{writtenSteps}
 use Rattle.writer.specs.declared.card.Card.{Card}
 
@@ -19,10 +19,15 @@ writtenLength n = 80 * n + 36
 unfoldable pub recordingOf : Card → (string : List ℕ) → List ℕ
 recordingOf card string = fileOf (writtenSteps card string)
 
--- So many steps, and so many bytes, with any card.
+-- The ticks of a recording of so many bytes, whatever they are.
+abbrev pub writtenTicks : Card → (count : ℕ) → ℕ
+writtenTicks card count = totalTicks (writtenSteps card (replicate count 0))
+
+-- So many steps, so many bytes and so many ticks, with any card.
 pub record Counted (card : Card) (string : List ℕ) : Type 0 where
   pub steps : length (writtenSteps card string) ≡ writtenStepCount (length string)
   pub bytes : length (recordingOf card string) ≡ writtenLength (length string)
+  pub ticks : totalTicks (writtenSteps card string) ≡ writtenTicks card (length string)
 
 abbrev pub CountedLaw : Type 0
 CountedLaw = (card : Card) (string : List ℕ) → Counted card string

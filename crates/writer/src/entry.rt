@@ -2,7 +2,7 @@
 ghost use mathlib.Core.Path.{_≡_};
 ghost use Prim.Native.Nat.{_≤_};
 ghost use lib.ListN.{length};
-ghost use Rattle.answer.specs.Lent.{_over_};
+ghost use Rattle.answer.specs.Answers.{_over_};
 ghost use Rattle.transfer.specs.Limits.{standardLimits};
 ghost use Rattle.writer.specs.Card.{standardCard};
 ghost use Rattle.writer.specs.Promise.{WritePromise};

@@ -1,25 +1,24 @@
 // How many ticks a written recording has.
 ghost use mathlib.Core.Path.{_≡_};
-ghost use Prim.Native.Nat.{_≤_};
-ghost use Rattle.writer.specs.Written.{mostBytes};
-ghost use Rattle.writer.specs.WrittenTicks.{openingTicks, acknowledgedTicks, valueTicks, writtenTicks};
+ghost use Prim.Native.Nat.{_+_, _*_, _≤_};
+ghost use Rattle.writer.specs.Written.{mostBytes, writtenTicks};
 use crate::card::Card;
 
 // The ticks of the pieces of src/steps.rt.
 fn opening_ticks(card: Card) -> u32
-    ensures { λ r. ⌜ r ≡ openingTicks card ⌝ }
+    ensures { λ r. ⌜ r ≡ card .hold + card .«ready_to_send» ⌝ }
 {
     card.hold as u32 + card.ready_to_send as u32
 }
 
 fn acknowledged_ticks(card: Card, after: u16) -> u32
-    ensures { λ r. ⌜ r ≡ acknowledgedTicks card after ⌝ }
+    ensures { λ r. ⌜ r ≡ card .«end_gap» + card .acknowledgement + after ⌝ }
 {
     card.end_gap as u32 + card.acknowledgement as u32 + after as u32
 }
 
 fn value_ticks(card: Card) -> u32
-    ensures { λ r. ⌜ r ≡ valueTicks card ⌝ }
+    ensures { λ r. ⌜ r ≡ 8 * (card .«set_up» + card .valid) + card .take ⌝ }
 {
     8 * (card.set_up as u32 + card.valid as u32) + card.take as u32
 }

@@ -1,7 +1,7 @@
 -- `write` meets its contract: each return is a row of the definition, and what is put down is read back. Assumes nothing.
 use mathlib.Core.Path.{ap, ap₂, _∙_}
 use native.Mathlib.Omega.{arith}
-use Rattle.answer.specs.{Types.TooManyBytes, Types.ShortDestination, Answers.accepted, Lent._over_}
+use Rattle.answer.specs.{Types.TooManyBytes, Types.ShortDestination, Answers.accepted, Answers._over_}
 use Rattle.writer.specs.Written.{leaves, recordingOf}
 use Rattle.writer.proofs.entry.write.Statement.{statement}
 use Rattle.writer.proofs.WrittenLaws.{too-many, no-room, all-well, refuses, puts-down}
