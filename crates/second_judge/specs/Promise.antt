@@ -1,12 +1,7 @@
 -- What `judge_by_steps` promises of its finding of `file` and of the lent memory: `bytes` and `ledger` are what was lent,
 -- `bytes′` and `ledger′` what it is at the end. Assumes nothing.
-use Prim.Native.Nat.{ℕ, _+_, _*_, _<_}
-use mathlib.Core.Path.{_≡_}
-use mathlib.Core.List.{List}
-use mathlib.Core.Logic.{_⊎_}
-use lib.ListN.{length, drop}
-use Rattle.second_judge.specs.declared.Finding.{Finding}
-use Rattle.second_judge.specs.Numbers.{Among, refusals, complete, cut, verdicts}
+use Rattle.second_judge.specs.{ℕ, _+_, _*_, _<_, List, length, drop, _≡_, _⊎_, declared.Finding.Finding}
+use Rattle.second_judge.specs.Numbers.{Among, refusals, verdicts}
 use Rattle.second_judge.specs.Recording.{step-count, total-ticks, lines, AtRest}
 
 -- "All further places keep what they held."
@@ -24,15 +19,15 @@ pub record Refused (finding : Finding) (bytes bytes′ ledger ledger′ : List �
 
 -- "A verdict carries the deciding tick and the step holding it (20: the finish tick; 22: total ticks and n)."
 pub record Timed (finding : Finding) (total steps : ℕ) : Type 0 where
-  pub at-the-end : finding .number ≡ cut .0 → (finding .tick ≡ total) × (finding .step ≡ steps)
-  pub before-the-end : (finding .number ≡ cut .0 → ⊥) → (finding .tick < total) × (finding .step < steps)
+  pub at-the-end : finding .number ≡ 22 → (finding .tick ≡ total) × (finding .step ≡ steps)
+  pub before-the-end : (finding .number ≡ 22 → ⊥) → (finding .tick < total) × (finding .step < steps)
 
 -- "Its count is the bytes handed over. The byte buffer begins with those; the ledger begins with two ticks for each."
 pub record Judged (finding : Finding) (file bytes bytes′ ledger ledger′ : List ℕ) : Type 0 where
   pub a-verdict : Among verdicts (finding .number)
   pub timed : Timed finding (total-ticks file) (step-count file)
   -- "E end. .. Any tick other than (0,0): 37.", and with ATN 23
-  pub at-rest : finding .number ≡ complete .0 → (last : ℕ) → last + 1 ≡ step-count file → AtRest (lines file last)
+  pub at-rest : finding .number ≡ 20 → (last : ℕ) → last + 1 ≡ step-count file → AtRest (lines file last)
   pub bytes-kept : Kept (finding .count) bytes bytes′
   pub ledger-kept : Kept (2 * finding .count) ledger ledger′
 

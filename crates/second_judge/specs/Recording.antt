@@ -1,8 +1,5 @@
 -- Document 01, "Recording layout", as far as the promises name it: `file` is a list of bytes. Assumes nothing.
-use Prim.Native.Nat.{ℕ, zero, suc, _+_, _*_, _%_, _≤_, _<_}
-use mathlib.Core.List.{List}
-use mathlib.Core.Path.{_≡_}
-use lib.ListN.{length, getD}
+use Rattle.second_judge.specs.{ℕ, zero, suc, _+_, _*_, _%_, _≤_, _<_, List, length, getD, _≡_}
 
 -- "Little-endian."
 abbrev pub two-bytes : List ℕ → ℕ → ℕ
@@ -19,11 +16,10 @@ step-count file = two-bytes file 2
 abbrev pub total-ticks : List ℕ → ℕ
 total-ticks file = four-bytes file 8
 
--- "Each step is 4 bytes: duration 1 to 65,535 in two bytes"
+-- "Each step is 4 bytes: duration 1 to 65,535 in two bytes; lines in one byte ..; one zero byte."
 abbrev pub duration : List ℕ → ℕ → ℕ
 duration file step = two-bytes file (16 + 4 * step)
 
--- "lines in one byte .. one zero byte"
 abbrev pub lines : List ℕ → ℕ → ℕ
 lines file step = two-bytes file (16 + 4 * step + 2)
 

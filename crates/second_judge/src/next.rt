@@ -1,5 +1,6 @@
 // Which rows a tick is tried against, and what it leads to.
-ghost use Rattle.second_judge.specs.Phases.{LeadsFrom};
+ghost use mathlib.Core.{List._∷_, Path._≡_};
+ghost use Rattle.second_judge.specs.{Numbers.Among, Numbers.leading, Numbers.stay, Numbers.the-end, Recording.AtRest};
 use crate::bits;
 use crate::handover;
 use crate::numbers;
@@ -9,8 +10,10 @@ use crate::rows;
 // `lines` and `before` have "bit 0 ATN, 1 CLK, 2 DATA" of this tick and of the one before; DATA is steady where both
 // show the same. "A tick with ATN pulled gives 23 before anything else".
 // A choice: also at tick 0 and in E. A byte that such a tick would have handed over is not handed over.
+// To E, and on in E, a tick leads only with the lines at rest.
 pub fn next(phase: u32, offset: u32, lines: u32, before: u32, bits: u32, end_mark: bool) -> u32
-    ensures { λ r. ⌜ LeadsFrom phase lines r ⌝ }
+    ensures { λ r. ⌜ Among (the-end ∷ leading) r × (r ≡ the-end → AtRest lines)
+        × (phase ≡ the-end → r ≡ stay → AtRest lines) ⌝ }
 {
     if lines % 2 == 1 {
         return numbers::ATTENTION;

@@ -1,8 +1,7 @@
 // How long a phase may last while its lines stay as they are: the rows that say "stay; at offset .. it is ..".
-ghost use mathlib.Core.Path.{_≡_};
+ghost use mathlib.Core.{List._∷_, Path._≡_};
 ghost use Prim.Native.Nat.{_<_};
-ghost use Rattle.second_judge.specs.Numbers.{Decides};
-ghost use Rattle.second_judge.specs.Phases.{Stands};
+ghost use Rattle.second_judge.specs.Numbers.{Among, standing, the-end, while-reading};
 use crate::Finding;
 use crate::limits;
 use crate::numbers;
@@ -12,8 +11,8 @@ use crate::place::Place;
 // The verdict that falls in a step, from its first tick on and before the tick `end`, at which it is over; or no
 // number. The place is the one after the first tick. A limit's tick may lie after the recording's last, and so is wide.
 pub fn found_in(place: Place, count: u32, step: u32, end: u32) -> Finding
-    requires { ⌜ Stands (place .phase) ⌝ }
-    ensures { λ r. ⌜ Decides (r .number) × (r .step ≡ step) × (r .count ≡ count)
+    requires { ⌜ Among (the-end ∷ standing) (place .phase) ⌝ }
+    ensures { λ r. ⌜ Among (0 ∷ while-reading) (r .number) × (r .step ≡ step) × (r .count ≡ count)
         × ((r .number ≡ 0 → ⊥) → r .tick < end) ⌝ }
 {
     let phase = place.phase;
@@ -66,8 +65,8 @@ fn limit_of(phase: u32) -> u32 {
 
 // The verdict at that offset. G: "it is 21 if no byte was handed over, otherwise 31". B, C, carried and E have none.
 fn verdict_of(phase: u32, count: u32) -> u32
-    requires { ⌜ Stands phase ⌝ }
-    ensures { λ r. ⌜ Decides r ⌝ }
+    requires { ⌜ Among (the-end ∷ standing) phase ⌝ }
+    ensures { λ r. ⌜ Among (0 ∷ while-reading) r ⌝ }
 {
     match phase {
         phase::END => numbers::NONE,

@@ -1,9 +1,7 @@
 // Where the reading stands: the phase, and the ticks that matter.
-ghost use mathlib.Core.Path.{_≡_};
+ghost use mathlib.Core.{List._∷_, Path._≡_};
 ghost use Prim.Native.Nat.{_≤_};
-ghost use mathlib.Core.List.{_∷_};
-ghost use Rattle.second_judge.specs.Numbers.{Among};
-ghost use Rattle.second_judge.specs.Phases.{Stands, end, leading, stay};
+ghost use Rattle.second_judge.specs.Numbers.{Among, leading, standing, stay, the-end};
 use crate::limits;
 use crate::phase;
 
@@ -30,9 +28,9 @@ pub fn place_of(
     let_go: u32,
     take: u32,
 ) -> Place
-    requires { ⌜ Stands phase ⌝ }
+    requires { ⌜ Among (the-end ∷ standing) phase ⌝ }
     ensures { λ r. ⌜ (r .phase ≡ phase) × (r .since ≡ since) × (r .«since_step» ≡ «since_step»)
-        × Stands (r .phase) ⌝ }
+        × Among (the-end ∷ standing) (r .phase) ⌝ }
 {
     Place {
         phase,
@@ -48,11 +46,11 @@ pub fn place_of(
 // later and both are set anew.
 pub fn after(before: Place, next: u32, tick: u32, step: u32) -> Place
     requires { ⌜ (before .since ≤ tick) × (before .«since_step» ≤ step) × (tick ≤ 2000000000)
-        × Stands (before .phase) ⌝ }
-    requires { ⌜ Among (end ∷ leading) next ⌝ }
-    ensures { λ r. ⌜ (r .since ≤ tick) × (r .«since_step» ≤ step) × Stands (r .phase) ⌝ }
-    ensures { λ r. ⌜ (r .phase ≡ end .0 → next ≡ stay .0 → before .phase ≡ end .0) ⌝ }
-    ensures { λ r. ⌜ (r .phase ≡ end .0 → (next ≡ stay .0 → ⊥) → next ≡ end .0) ⌝ }
+        × Among (the-end ∷ standing) (before .phase) ⌝ }
+    requires { ⌜ Among (the-end ∷ leading) next ⌝ }
+    ensures { λ r. ⌜ (r .since ≤ tick) × (r .«since_step» ≤ step) × Among (the-end ∷ standing) (r .phase) ⌝ }
+    ensures { λ r. ⌜ (r .phase ≡ the-end → next ≡ stay → before .phase ≡ the-end) ⌝ }
+    ensures { λ r. ⌜ (r .phase ≡ the-end → (next ≡ stay → ⊥) → next ≡ the-end) ⌝ }
 {
     let ready_for_data = before.ready_for_data;
     let let_go = before.let_go;

@@ -1,8 +1,7 @@
 // "Reading goes from state to state and stops for good at the deciding tick": here from step to step.
 ghost use mathlib.Core.Path.{_≡_};
 ghost use Prim.Native.Nat.{_<_};
-ghost use Rattle.second_judge.specs.Numbers.{Among, complete, verdicts};
-ghost use Rattle.second_judge.specs.Phases.{end};
+ghost use Rattle.second_judge.specs.Numbers.{Among, the-end, verdicts};
 ghost use Rattle.second_judge.specs.Promise.{Judged, Timed};
 ghost use Rattle.second_judge.specs.Recording.{Passed};
 use crate::Finding;
@@ -53,9 +52,9 @@ pub fn read_steps(file: &[u8], steps: u32, bytes: &mut [u8], ledger: &mut [u32])
 // "The recording running out gives 20 in E, 22 anywhere else." "20: the finish tick; 22: total ticks and n."
 // A choice: steps are counted from 0, as S1 shows, whose last step of 25 is its step 24.
 fn ran_out(place: Place, total: u32, steps: u32, count: u32) -> Finding
-    requires { ⌜ (place .phase ≡ end .0 → (place .since < total) × (place .«since_step» < steps)) ⌝ }
+    requires { ⌜ (place .phase ≡ the-end → (place .since < total) × (place .«since_step» < steps)) ⌝ }
     ensures { λ r. ⌜ Among verdicts (r .number) × (r .count ≡ count) × Timed r total steps
-        × (r .number ≡ complete .0 → place .phase ≡ end .0) ⌝ }
+        × (r .number ≡ 20 → place .phase ≡ the-end) ⌝ }
 {
     if place.phase == phase::END {
         Finding {

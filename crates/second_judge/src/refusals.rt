@@ -1,7 +1,7 @@
 // "Refusals, tested in this order": the header's and the lent memory's rows of the table.
-ghost use mathlib.Core.Path.{_≡_};
+ghost use mathlib.Core.{List._∷_, Path._≡_};
 ghost use Prim.Native.Nat.{_+_, _*_, _≤_, _<_};
-ghost use Rattle.second_judge.specs.Numbers.{Refuses};
+ghost use Rattle.second_judge.specs.Numbers.{Among, refusals};
 ghost use Rattle.second_judge.specs.Recording.{Passed};
 use crate::layout;
 use crate::numbers;
@@ -21,8 +21,8 @@ pub struct Tested {
 
 // "Its step is the offending one for 6 and 7 and otherwise 0". Nothing is to be read.
 pub fn refused(number: u32, step: u32) -> Tested
-    requires { ⌜ Refuses number ⌝ }
-    ensures { λ r. ⌜ (r .number ≡ number) × Refuses (r .number) ⌝ }
+    requires { ⌜ Among (0 ∷ refusals) number ⌝ }
+    ensures { λ r. ⌜ (r .number ≡ number) × Among (0 ∷ refusals) (r .number) ⌝ }
 {
     Tested {
         number,
@@ -33,7 +33,7 @@ pub fn refused(number: u32, step: u32) -> Tested
 
 // Row 1 of the table, and then the others.
 pub fn test(file: &[u8], byte_places: usize, ledger_places: usize) -> Tested
-    ensures { λ r. ⌜ Refuses (r .number) × (r .number ≡ 0 → Passed (now (file .entry)) (r .steps)) ⌝ }
+    ensures { λ r. ⌜ Among (0 ∷ refusals) (r .number) × (r .number ≡ 0 → Passed (now (file .entry)) (r .steps)) ⌝ }
 {
     if file.len() < layout::HEADER_BYTES {
         return refused(numbers::FEWER_THAN_16_BYTES, 0);
@@ -51,7 +51,7 @@ pub fn test(file: &[u8], byte_places: usize, ledger_places: usize) -> Tested
 
 // Row 9.
 fn room_refusal(byte_places: usize, ledger_places: usize) -> u32
-    ensures { λ r. ⌜ Refuses r ⌝ }
+    ensures { λ r. ⌜ Among (0 ∷ refusals) r ⌝ }
 {
     if byte_places < BYTE_PLACES {
         return numbers::TOO_FEW_PLACES;
@@ -66,7 +66,7 @@ fn room_refusal(byte_places: usize, ledger_places: usize) -> u32
 // Rows 2 to 5.
 fn header_refusal(version: u32, steps: u32, offset: u32, length: u32, true_length: usize) -> u32
     requires { ⌜ steps < 65536 ⌝ }
-    ensures { λ r. ⌜ Refuses r × (r ≡ 0 → (steps ≤ 16000) × (16 + 4 * steps ≤ «true_length»)) ⌝ }
+    ensures { λ r. ⌜ Among (0 ∷ refusals) r × (r ≡ 0 → (steps ≤ 16000) × (16 + 4 * steps ≤ «true_length»)) ⌝ }
 {
     if version != layout::VERSION {
         return numbers::VERSION;

@@ -3,8 +3,7 @@
 use mathlib.Core.Logic.{inl, inr}
 use mathlib.Core.Path.{refl}
 use borrow.Author.Needs.{needs}
-use Rattle.second_judge.specs.Numbers.{refusals, undecided}
-use Rattle.second_judge.proofs.Laws.{another}
+use borrow.Author.Tests.{ne-eqb}
 use Rattle.second_judge.proofs.judge_by_steps.Statement.{statement}
 use Rattle.second_judge.proofs.judge_by_steps.Tie as tie
 
@@ -12,7 +11,7 @@ returns : tie.Need-returns
 returns c =
     inl
     (record {
-      a-refusal = another undecided refusals _ (c .if1 .taken) (c .before .before .test .ensures .0);
+      a-refusal = simp (ne-eqb _ 0 (c .if1 .taken)) at (c .before .before .test .ensures .0);
       tick-0 = refl;
       count-0 = refl;
       same-bytes = refl;

@@ -1,10 +1,7 @@
--- `second_judge::patience::verdict_of` meets its contract: what the reading stands at is a verdict if it is none of the
--- other-phases, which are the match's arms in their order. Assumes nothing.
+-- `second_judge::patience::verdict_of` meets its contract: what the reading stands at is a verdict if it is no phase, and
+-- the phases are the match's arms. Assumes nothing.
 use borrow.Author.Needs.{needs}
-use mathlib.Core.List.{_∷_}
-use Rattle.second_judge.specs.Numbers.{undecided, while-reading}
-use Rattle.second_judge.specs.Phases.{end, other-phases}
-use Rattle.second_judge.proofs.Laws.{further, unmatched}
+use borrow.Author.Tests.{ne-eqb}
 use Rattle.second_judge.proofs.patience.verdict_of.Statement.{statement}
 use Rattle.second_judge.proofs.patience.verdict_of.Tie as tie
 
@@ -15,5 +12,6 @@ verdict-of-spec =
     (λ c. search needs) (λ c. search needs) (λ c. search needs) (λ c. search needs) (λ c. search needs)
     (λ c. search needs) (λ c. search needs)
     (λ c.
-    further undecided while-reading (c .before .args .phase)
-    (unmatched Unit (end ∷ other-phases) while-reading _ (c .match .rest) (c .before .pre))))
+    let ((((((first, acknowledgement), acknowledged), set-up), valid), carried), opened) = c .match .rest in
+    let (((((_, end), start), hold), ready-to-send), ready-for-data) = first in
+    simp ne-eqb (simp ne-eqb at (c .before .pre))))

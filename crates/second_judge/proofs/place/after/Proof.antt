@@ -1,23 +1,14 @@
--- `second_judge::place::after` meets its contract: what a tick leads to is where the reading stands, unless it is one of
--- the three turns, each of which is an arm of the match. Assumes nothing.
-use mathlib.Core.List.{_++_}
+-- `second_judge::place::after` meets its contract: what a tick leads to is where the reading stands, unless it is to stay,
+-- to C with a byte handed over, or open from here, each of which is an arm of the match. Assumes nothing.
 use borrow.Author.Needs.{needs}
-use Rattle.second_judge.specs.Numbers.{while-reading}
-use Rattle.second_judge.specs.Phases.{end, leading, other-phases, turns}
-use Rattle.second_judge.proofs.Laws.{under, unmatched}
+use borrow.Author.Tests.{ne-eqb}
 use Rattle.second_judge.proofs.place.after.Statement.{statement}
 use Rattle.second_judge.proofs.place.after.Tie as tie
 
 to-a-phase-or-verdict : tie.Need-place-of-requires-7
 to-a-phase-or-verdict c κs =
-    let rest = c .match .rest in
-    let stay = rest .0 .0 .0 .0 .0 .0 .1 in
-    let hand-over = rest .0 .0 .0 .0 .1 in
-    let open-from-here = rest .1 in
-    let n = c .before .args .next in
-    under end leading (other-phases ++ while-reading) n
-    (unmatched Unit turns (other-phases ++ while-reading) n (((tt, stay), hand-over), open-from-here))
-    (c .before .pre .1)
+    let (((((((_, stay), hold), hand-over), ready-for-data), carried), opened), open-from-here) = c .match .rest in
+    simp ne-eqb (simp ne-eqb at (c .before .pre .1))
 
 pub after-spec : {M : Type 1} → statement M
 after-spec =

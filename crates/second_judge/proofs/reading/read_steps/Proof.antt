@@ -7,15 +7,16 @@
 use mathlib.Core.List.{_∷_}
 use Prim.Native.Nat.{ℕ, _+_, _*_, _-_, _%_, _≤_, _<_}
 use mathlib.Core.Path.{_≡_, ap, subst, sym}
+use mathlib.Core.Logic.{by-cases}
+use native.Mathlib.Decide.{ℕ-discrete}
 use native.Mathlib.Omega.{arith}
 use borrow.Author.Needs.{needs}
+use borrow.Author.Tests.{ne-eqb}
 use denote.Ref.{now}
-use Rattle.second_judge.specs.Numbers.{Among, complete, cut, undecided, while-reading}
-use Rattle.second_judge.specs.Phases.{end, stay, Stands}
+use Rattle.second_judge.specs.Numbers.{Among, standing, stay, the-end, while-reading}
 use Rattle.second_judge.specs.Promise.{Kept}
 use Rattle.second_judge.specs.Recording.{AtRest, lines, ticks}
-use Rattle.second_judge.proofs.Laws.{further, another, either, kept-same, kept-both, kept-from}
-use Rattle.second_judge.proofs.Laws.{ticks-none, ticks-more, ticks-grow}
+use Rattle.second_judge.proofs.Laws.{kept-same, kept-both, kept-from, ticks-none, ticks-more, ticks-grow}
 use Rattle.second_judge.proofs.reading.read_steps.Statement.{statement}
 use Rattle.second_judge.proofs.reading.read_steps.Tie as tie
 
@@ -24,9 +25,9 @@ Inv-loop file steps bytes₀ ledger₀ place₀ byte₀ before₀ count₀ tick�
     bytes ledger place byte before count tick step =
     Kept count bytes₀ bytes × Kept (2 * count) ledger₀ ledger × (step ≤ steps) × (tick ≤ 65535 * step)
     × (tick ≡ ticks file step) × (place .since ≤ tick) × (place .«since_step» ≤ step)
-    × (place .phase ≡ end .0
+    × (place .phase ≡ the-end
     → (place .since < tick) × (place .«since_step» < step) × ((last : ℕ) → last + 1 ≡ step → AtRest (lines file last)))
-    × Stands (place .phase) × (byte .bits ≤ step) × (count ≤ step)
+    × Among (the-end ∷ standing) (place .phase) × (byte .bits ≤ step) × (count ≤ step)
 
 abbrev μ-loop : tie.MeasureT-loop
 μ-loop file steps bytes₀ ledger₀ place₀ byte₀ before₀ count₀ tick₀ step₀
@@ -73,15 +74,15 @@ ended c =
 -- a step that leaves the reading in E shows the lines at rest
 rested : (c : tie.After-after2 Inv-loop μ-loop) →
     let tested = tested-of (c .before .before .before .before .before .before) in
-    c .after2 .result .phase ≡ end .0 → AtRest (lines (now (start-of (tested .before) .args .file)) (tested .before .loop .step))
+    c .after2 .result .phase ≡ the-end → AtRest (lines (now (start-of (tested .before) .args .file)) (tested .before .loop .step))
 rested c in-the-end =
     let called = c .before .before .before .before .before .before in
     let next = called .before .before .before .next in
     let shown = called .before .before .before .before .before .step-at .ensures .1 in
     let went = c .after2 .ensures .1 in
-    either (next .result) (stay .0)
-    (λ stays. omega (arith, shown, next .ensures .in-the-end (went .0 in-the-end stays) stays))
-    (λ goes. omega (arith, shown, next .ensures .into-the-end (went .1 in-the-end goes)))
+    by-cases (ℕ-discrete (next .result) stay)
+    (λ stays. omega (arith, shown, next .ensures .2 (went .0 in-the-end stays) stays))
+    (λ goes. omega (arith, shown, next .ensures .1 (went .1 in-the-end goes)))
 
 loop-holds : tie.Need-loop-holds Inv-loop μ-loop
 loop-holds c =
@@ -106,7 +107,7 @@ after-requires-2 c κs =
     let early : tested .before .loop .tick ≤ 2000000000 =
     omega (arith, inv, tested .loop-test .taken, start-of (tested .before) .pre .few) in
     let next = c .before .before .before .before .before .before .before .before .next in
-    ((inv .5, inv .6, early, inv .8), next .ensures .known)
+    ((inv .5, inv .6, early, inv .8), next .ensures .0)
 
 same-length : tie.Need-same-length Inv-loop μ-loop
 same-length c = stored (called-of (c .before .before)) .0 .as-long
@@ -122,20 +123,22 @@ returns c =
     let step = tested .before .loop .step in
     let number = c .before .before .found-in .result .number in
     let found = c .before .before .found-in .ensures in
-    let verdict = another undecided while-reading number (c .if1 .taken) (found .0) in
+    let verdict : Among while-reading number = simp (ne-eqb number 0 (c .if1 .taken)) at (found .0) in
+    let no-complete : number ≡ 20 → ⊥ = λ same. subst (Among while-reading) same verdict in
+    let no-cut : number ≡ 22 → ⊥ = λ same. subst (Among while-reading) same verdict in
     let grown =
     ticks-grow (now (start .args .file)) (step + 1) (start .args .steps) (omega (arith, tested .loop-test .taken)) in
     record {
-      a-verdict = further complete (cut ∷ while-reading) number (further cut while-reading number verdict);
+      a-verdict = simp (ne-eqb number 20 no-complete, ne-eqb number 22 no-cut) verdict;
       timed =
           record {
-            at-the-end = λ at-cut. absurd (subst (Among while-reading) at-cut verdict);
+            at-the-end = λ at-cut. absurd (no-cut at-cut);
             before-the-end = λ other. (
               omega (arith, found .3 (c .if1 .taken), ended called, grown, start .pre .summed),
               omega (arith, found .1, tested .loop-test .taken, start .pre .counted),
             );
           };
-      at-rest = λ at-end. absurd (subst (Among while-reading) at-end verdict);
+      at-rest = λ at-end. absurd (no-complete at-end);
       bytes-kept = kept-from (omega (arith, found .2)) (stored called .0);
       ledger-kept = kept-from (omega (arith, found .2)) (stored called .1);
     }
@@ -165,9 +168,8 @@ loop-again c =
         omega (arith, place .0, ended called .1),
         omega (arith, place .1),
         λ last this.
-            let same : tested .before .loop .step ≡ last = omega (arith, this) in
-            subst (λ (n : ℕ). AtRest (lines (now (start-of (tested .before) .args .file)) n)) same
-            (rested (c .before .before .before) in-the-end),
+            let same : last ≡ tested .before .loop .step = omega (arith, this) in
+            rw same (rested (c .before .before .before) in-the-end),
       ),
       place .2,
       omega (arith, inv, c .before .before .before .before .after .ensures),
