@@ -1,5 +1,5 @@
 // What an entry answers: its number, by name, and what goes with it.
-ghost use mathlib.Core.Path.{_≡_};
+ghost use Rattle.answer.specs.Basics.{_≡_};
 ghost use Rattle.answer.specs.Answers.{refused, accepted};
 
 mod names;

@@ -1,6 +1,5 @@
 // One word for each number of an answer, after document 01's tables.
-ghost use Prim.Native.Nat.{_+_, _≤_};
-ghost use lib.ListN.{length};
+ghost use Rattle.answer.specs.Basics.{_+_, _≤_, length};
 ghost use Rattle.answer.specs.Names.{wordAt, wordOf, Spells};
 
 // The first `length` characters are the word.

@@ -1,5 +1,5 @@
 // The refusals of every entry, in the order of document 01's table, and their numbers.
-ghost use mathlib.Core.Path.{_≡_};
+ghost use Rattle.answer.specs.Basics.{_≡_};
 ghost use Rattle.answer.specs.Numbers.{refusalNumber};
 
 pub enum Refusal {

@@ -1,5 +1,5 @@
 // What a reading can come to, and document 01's number for each.
-ghost use mathlib.Core.Path.{_≡_};
+ghost use Rattle.answer.specs.Basics.{_≡_};
 ghost use Rattle.answer.specs.Numbers.{verdictNumber};
 
 // Why a tick ends the reading.

@@ -1,5 +1,5 @@
 // One recording before both judges: this is the only place where they are called.
-ghost use Prim.Native.Nat.{_≤_};
+ghost use Rattle.answer.specs.Basics.{_≤_};
 use crate::case::BYTES;
 use crate::case::Case;
 use crate::case::LEDGER;

@@ -1,6 +1,5 @@
 // The bytes of a file or of standard input.
-ghost use Prim.Native.Nat.{_+_, _≤_};
-ghost use lib.ListN.{length};
+ghost use Rattle.answer.specs.Basics.{_+_, _≤_, length};
 ghost use Rattle.io.specs.Counts.{Counts};
 
 // How many bytes were read, and whether a read failed: then these are not all bytes, and errno says why.

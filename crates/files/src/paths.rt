@@ -1,6 +1,5 @@
 // A file's name as it is printed.
-ghost use mathlib.Core.Path.{_≡_};
-ghost use mathlib.Core.List.{map};
+ghost use Rattle.answer.specs.Basics.{map, _≡_};
 ghost use Rattle.files.specs.Printable.{printable};
 
 // What stands in place of a control character.

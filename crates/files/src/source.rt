@@ -1,7 +1,5 @@
 // The recording that a program is asked about: the file that its first argument names, or standard input.
-ghost use mathlib.Core.Path.{_≡_};
-ghost use Prim.Native.Nat.{_≤_};
-ghost use lib.ListN.{length};
+ghost use Rattle.answer.specs.Basics.{_≤_, length, _≡_};
 ghost use Rattle.io.specs.Counts.{Counts};
 use crate::input::read_input;
 use crate::paths::hide_controls;

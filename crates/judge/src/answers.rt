@@ -1,9 +1,7 @@
 // The answer that a reading comes to.
-ghost use mathlib.Core.Path.{_≡_};
-ghost use Rattle.recording.specs.GoodForm.{GoodForm};
-ghost use Rattle.recording.specs.Ticks.{stepsFrom};
-ghost use Rattle.judge.specs.Judged.{stepHolding};
-ghost use Rattle.judge.specs.Reading.{stateAnswer};
+ghost use Rattle.answer.specs.Basics.{_≡_};
+ghost use Rattle.recording.specs.{GoodForm.GoodForm, Ticks.stepsFrom};
+ghost use Rattle.judge.specs.{Judged.stepHolding, Reading.stateAnswer};
 use answer::Answer;
 use reader::State;
 use recording::Header;

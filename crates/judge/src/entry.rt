@@ -1,7 +1,6 @@
 // The judge's entry.
 ghost use Rattle.transfer.specs.Limits.{standardLimits};
-ghost use Rattle.judge.specs.Judged.{leaves};
-ghost use Rattle.judge.specs.Promise.{JudgePromise};
+ghost use Rattle.judge.specs.{Judged.leaves, Promise.JudgePromise};
 use crate::answers;
 use crate::reading;
 use answer::Answer;

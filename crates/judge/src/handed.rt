@@ -1,5 +1,5 @@
 // A byte that is handed over goes to its place in each lent buffer.
-ghost use mathlib.Core.Path.{_≡_};
+ghost use Rattle.answer.specs.Basics.{_≡_};
 ghost use Rattle.judge.specs.Reading.{Storable, withByte, withTicks};
 use reader::State;
 

@@ -1,5 +1,5 @@
 // The reading of a recording: step after step, and in each step tick after tick, idle ticks in one move.
-ghost use mathlib.Core.Path.{_≡_};
+ghost use Rattle.answer.specs.Basics.{_≡_};
 ghost use Rattle.judge.specs.Reading.{Readable, reached, readInto, ticksFrom};
 use crate::handed;
 use reader::State;

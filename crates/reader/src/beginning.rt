@@ -1,5 +1,5 @@
 // Phases A start, B hold and C ready to send.
-ghost use mathlib.Core.Path.{_≡_};
+ghost use Rattle.answer.specs.Basics.{_≡_};
 ghost use Rattle.reader.specs.States.{readIn, Countable};
 use crate::offset::below;
 use crate::state::State;

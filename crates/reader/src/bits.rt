@@ -1,5 +1,5 @@
 // The eight bits of a byte, least significant first: set-up and valid.
-ghost use mathlib.Core.Path.{_≡_};
+ghost use Rattle.answer.specs.Basics.{_≡_};
 ghost use Rattle.transfer.specs.Phases.{same, withBit};
 ghost use Rattle.reader.specs.States.{readIn, Countable};
 use crate::offset::below;

@@ -1,5 +1,5 @@
 // Phase E end.
-ghost use mathlib.Core.Path.{_≡_};
+ghost use Rattle.answer.specs.Basics.{_≡_};
 ghost use Rattle.reader.specs.States.{readIn, Countable};
 use crate::state::State;
 use answer::Fault;

@@ -1,5 +1,5 @@
 // Phases D ready for data, F acknowledgement and G: whether the byte to come has the end mark.
-ghost use mathlib.Core.Path.{_≡_};
+ghost use Rattle.answer.specs.Basics.{_≡_};
 ghost use Rattle.reader.specs.States.{readIn, Countable};
 use crate::offset::below;
 use crate::state::State;

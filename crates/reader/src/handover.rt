@@ -1,5 +1,5 @@
 // The handover: from the CLK pull after bit 8 to the receiver's take.
-ghost use mathlib.Core.Path.{_≡_};
+ghost use Rattle.answer.specs.Basics.{_≡_};
 ghost use Rattle.transfer.specs.Phases.{handover};
 ghost use Rattle.reader.specs.States.{follow, readIn, Countable};
 use crate::offset::up_to;

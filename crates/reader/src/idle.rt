@@ -1,6 +1,5 @@
 // Idle ticks: those that only add one to the tick. A loop over a step's ticks passes over them in one move.
-ghost use mathlib.Core.Path.{_≡_};
-ghost use Prim.Native.Nat.{_+_, _<_, _^_};
+ghost use Rattle.answer.specs.Basics.{_+_, _^_, _<_, _≡_};
 ghost use Rattle.reader.specs.Idle.{ticksBelow, idleTicks, later};
 use crate::state::State;
 use transfer::Limits;

@@ -1,5 +1,5 @@
 // How far a tick is from the first tick of a phase. Only ever compared, never subtracted: a phase keeps its first tick.
-ghost use mathlib.Core.Path.{_≡_};
+ghost use Rattle.answer.specs.Basics.{_≡_};
 ghost use Rattle.transfer.specs.Offsets.{below, upTo};
 
 // `now` is fewer than `limit` ticks after `since`.

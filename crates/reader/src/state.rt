@@ -1,10 +1,6 @@
 // The state of the reading, and one tick of it.
-ghost use mathlib.Core.Path.{_≡_};
-ghost use Rattle.answer.specs.Basics.{if_then_else_};
-ghost use Rattle.transfer.specs.Offsets.{below, upTo};
-ghost use Prim.Native.Nat.{_<_, _^_};
-ghost use Rattle.transfer.specs.Moves.{isDecided, heldByte, decisionOf};
-ghost use Rattle.transfer.specs.Phases.{Go, Stop};
+ghost use Rattle.answer.specs.Basics.{_^_, _<_, _≡_, if_then_else_};
+ghost use Rattle.transfer.specs.{Offsets.below, Offsets.upTo, Moves.isDecided, Moves.heldByte, Moves.decisionOf, Phases.Go, Phases.Stop};
 ghost use Rattle.reader.specs.States.{follow, handedOn, readIn, nextState, firstState, Countable};
 use crate::offset::below;
 use crate::offset::up_to;

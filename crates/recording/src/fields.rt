@@ -1,10 +1,7 @@
 // Little-endian numbers of two and of four bytes.
-ghost use mathlib.Core.Path.{_≡_};
-ghost use Prim.Native.Nat.{_+_, _*_, _≤_};
-ghost use lib.ListN.{length};
+ghost use Rattle.answer.specs.Basics.{_+_, _*_, _≤_, length, _≡_};
 ghost use lib.Seq.{sets};
-ghost use Rattle.recording.specs.Layout.{u16At, u32At};
-ghost use Rattle.recording.specs.FileOf.{twoBytes, fourBytes};
+ghost use Rattle.recording.specs.{Layout.u16At, Layout.u32At, FileOf.twoBytes, FileOf.fourBytes};
 
 fn join_bytes(low: u8, high: u8) -> u16
     ensures { λ r. ⌜ r ≡ low + high * 256 ⌝ }

@@ -1,10 +1,6 @@
 // Whether a recording is of good form, and if not, what it is refused for.
-ghost use mathlib.Core.Path.{_≡_};
-ghost use Prim.Native.Nat.{_≤_};
-ghost use lib.ListN.{length};
-ghost use Rattle.recording.specs.Layout.{mostSteps, fileLength};
-ghost use Rattle.recording.specs.Form.{formOf, bodyForm};
-ghost use Rattle.recording.specs.Ticks.{stepsFrom};
+ghost use Rattle.answer.specs.Basics.{_≤_, length, _≡_};
+ghost use Rattle.recording.specs.{Layout.mostSteps, Layout.fileLength, Form.formOf, Form.bodyForm, Ticks.stepsFrom};
 use crate::header::Header;
 use crate::step::Step;
 use crate::test::Test;

@@ -1,11 +1,7 @@
 // The header: the first sixteen bytes of a recording.
-ghost use mathlib.Core.Path.{_≡_};
-ghost use Prim.Native.Nat.{_≤_};
-ghost use lib.ListN.{length};
+ghost use Rattle.answer.specs.Basics.{_≤_, length, _≡_};
 ghost use lib.Seq.{sets};
-ghost use Rattle.recording.specs.Layout.{headerAt, headerSize};
-ghost use Rattle.recording.specs.Form.{headerTest};
-ghost use Rattle.recording.specs.FileOf.{headerBytes, goodHeader};
+ghost use Rattle.recording.specs.{Layout.headerAt, Layout.headerSize, Form.headerTest, FileOf.headerBytes, FileOf.goodHeader};
 use crate::fields;
 use crate::step::Step;
 use crate::test::Test;

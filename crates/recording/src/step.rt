@@ -1,11 +1,7 @@
 // One step: the lines as they stand for a number of ticks.
-ghost use mathlib.Core.Path.{_≡_};
-ghost use Prim.Native.Nat.{_+_, _≤_};
-ghost use lib.ListN.{length};
+ghost use Rattle.answer.specs.Basics.{_+_, _≤_, length, _≡_};
 ghost use lib.Seq.{sets};
-ghost use Rattle.recording.specs.Layout.{stepAt, stepPlace, stepSize};
-ghost use Rattle.recording.specs.Form.{stepTest};
-ghost use Rattle.recording.specs.FileOf.{stepBytes};
+ghost use Rattle.recording.specs.{Layout.stepAt, Layout.stepPlace, Layout.stepSize, Form.stepTest, FileOf.stepBytes};
 use crate::fields;
 use crate::header::Header;
 use crate::test::Test;

@@ -1,10 +1,9 @@
 // The station's entries for programs in C and Rust. Each hands the lent memory on and the answer back, and does nothing else.
-ghost use mathlib.Core.Path.{_≡_};
+ghost use Rattle.answer.specs.Basics.{_≡_};
 ghost use Rattle.transfer.specs.Limits.{standardLimits};
 ghost use Rattle.judge.specs.Judged as Judged;
 ghost use Rattle.judge.specs.Promise.{JudgePromise};
-ghost use Rattle.writer.specs.Card.{standardCard};
-ghost use Rattle.writer.specs.Promise.{WritePromise};
+ghost use Rattle.writer.specs.{Card.standardCard, Promise.WritePromise};
 ghost use Rattle.writer.specs.Written as Written;
 ghost use Rattle.station.specs.Border.{answerOf};
 use answer::Answer;

@@ -1,5 +1,5 @@
 // What a recording comes to.
-ghost use mathlib.Core.Path.{_≡_};
+ghost use Rattle.answer.specs.Basics.{_≡_};
 ghost use Rattle.transfer.specs.Moves.{completeAt, cutAt, brokenAt};
 use answer::Fault;
 use answer::Verdict;

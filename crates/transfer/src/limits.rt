@@ -1,6 +1,6 @@
 // The times of document 01, in ticks of 1 µs. Each has one name, used wherever that time is meant. H marks a house limit, 000 and
 // 003 the source that gives the others.
-ghost use mathlib.Core.Path.{_≡_};
+ghost use Rattle.answer.specs.Basics.{_≡_};
 ghost use Rattle.transfer.specs.Limits.{standardLimits};
 
 pub struct Limits {

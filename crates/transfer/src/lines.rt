@@ -1,5 +1,5 @@
 // What one tick shows, decoded from a line byte in this place alone.
-ghost use mathlib.Core.Path.{_≡_};
+ghost use Rattle.answer.specs.Basics.{_≡_};
 ghost use Rattle.transfer.specs.Lines.{linesOf};
 
 // A line is true when pulled. SRQ changes no answer and is not looked at.

@@ -1,10 +1,8 @@
 // The changes, step by step.
-ghost use Prim.Native.Nat.{_≤_, _-_};
-ghost use lib.ListN.{length};
-ghost use Rattle.recording.specs.Layout.{mostSteps, fileLength};
-ghost use Rattle.recording.specs.Ticks.{stepsFrom};
-ghost use Rattle.vcd.specs.Dump.{timeText, stepText, laterText, stepsText};
+ghost use Rattle.answer.specs.Basics.{_-_, _≤_, length};
+ghost use Rattle.recording.specs.{Layout.mostSteps, Layout.fileLength, Ticks.stepsFrom};
 ghost use Rattle.vcd.specs.Put.{held, Puts};
+ghost use Rattle.vcd.specs.Dump.{timeText, stepText, laterText, stepsText};
 use crate::numbers;
 use crate::window;
 use crate::window::Window;

@@ -1,10 +1,7 @@
 // The entry: a part of a recording's dump, put down in a lent destination.
-ghost use mathlib.Core.Path.{_≡_};
-ghost use Rattle.recording.specs.GoodForm.{GoodForm};
-ghost use Rattle.recording.specs.Ticks.{stepsOf};
-ghost use Rattle.vcd.specs.Dump.{dump};
-ghost use Rattle.vcd.specs.Dumped.{leaves, dumped};
-ghost use Rattle.vcd.specs.Put.{held, Puts};
+ghost use Rattle.answer.specs.Basics.{_≡_};
+ghost use Rattle.recording.specs.{GoodForm.GoodForm, Ticks.stepsOf};
+ghost use Rattle.vcd.specs.{Dump.dump, Dumped.leaves, Dumped.dumped, Put.held, Put.Puts};
 use crate::changes;
 use crate::heading;
 use crate::window::Window;

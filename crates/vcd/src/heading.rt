@@ -1,6 +1,5 @@
 // The declarations that a dump begins with: the timescale, and a wire of one bit for each line, with its identifier.
-ghost use Rattle.vcd.specs.Dump.{heading};
-ghost use Rattle.vcd.specs.Put.{held, Puts};
+ghost use Rattle.vcd.specs.{Dump.heading, Put.held, Put.Puts};
 use crate::window;
 use crate::window::Window;
 

@@ -1,8 +1,6 @@
 // Numbers in decimal.
-ghost use mathlib.Core.Path.{_≡_};
-ghost use Prim.Native.Nat.{_<_};
-ghost use Rattle.vcd.specs.Text.{digit, decimal};
-ghost use Rattle.vcd.specs.Put.{held, Puts};
+ghost use Rattle.answer.specs.Basics.{_<_, _≡_};
+ghost use Rattle.vcd.specs.{Text.digit, Text.decimal, Put.held, Put.Puts};
 use crate::window;
 use crate::window::Window;
 

@@ -1,6 +1,5 @@
 // The window through which a text is put down. A text is made whole each time; the window takes what lies in it.
-ghost use mathlib.Core.List.{[], _∷_};
-ghost use mathlib.Core.Path.{_≡_};
+ghost use Rattle.answer.specs.Basics.{[], _∷_, _≡_};
 ghost use Rattle.vcd.specs.Put.{held, windowAt, Puts};
 
 pub(crate) struct Window {

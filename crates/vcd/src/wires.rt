@@ -1,7 +1,7 @@
 // The four wires, and their values.
-ghost use mathlib.Core.Path.{_≡_};
-ghost use Rattle.vcd.specs.Wires.{bitOf, identifierOf, levelOf, valueText, changeText, eachWire};
+ghost use Rattle.answer.specs.Basics.{_≡_};
 ghost use Rattle.vcd.specs.Put.{held, Puts};
+ghost use Rattle.vcd.specs.Wires.{bitOf, identifierOf, levelOf, valueText, changeText, eachWire};
 use crate::window;
 use crate::window::Window;
 

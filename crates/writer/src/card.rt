@@ -1,5 +1,5 @@
 // The durations that the writer puts down.
-ghost use mathlib.Core.Path.{_≡_};
+ghost use Rattle.answer.specs.Basics.{_≡_};
 ghost use Rattle.writer.specs.Card.{standardCard};
 
 // Each duration in ticks, named once. (c,d) is CLK=c, DATA=d.

@@ -1,11 +1,8 @@
 // The entry: a recording of given bytes, put down in a lent destination.
-ghost use mathlib.Core.Path.{_≡_};
-ghost use Prim.Native.Nat.{_≤_};
-ghost use lib.ListN.{length};
+ghost use Rattle.answer.specs.Basics.{_≤_, length, _≡_};
 ghost use Rattle.answer.specs.Answers.{_over_};
 ghost use Rattle.transfer.specs.Limits.{standardLimits};
-ghost use Rattle.writer.specs.Card.{standardCard};
-ghost use Rattle.writer.specs.Promise.{WritePromise};
+ghost use Rattle.writer.specs.{Card.standardCard, Promise.WritePromise};
 ghost use Rattle.writer.specs.Written.{mostBytes, writtenLength, recordingOf, leaves};
 use crate::card::Card;
 use crate::string;

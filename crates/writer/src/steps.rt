@@ -1,11 +1,9 @@
 // The pieces of a written recording. Each function puts its steps down from step `first` on, and hands back the step after them.
-ghost use mathlib.Core.List.{[], _∷_};
-ghost use Prim.Native.Nat.{_+_, _≤_};
-ghost use lib.ListN.{length};
+ghost use Rattle.answer.specs.Basics.{_+_, _≤_, [], _∷_, length};
 ghost use Rattle.recording.specs.Layout.{stepPlace};
-ghost use Rattle.writer.specs.WrittenSteps.{shows, bitSteps, byteSteps, plainGap, sentSteps};
-ghost use Rattle.writer.specs.WrittenSteps.{closing, emptySteps, opening, acknowledged, valueSteps};
 ghost use Rattle.writer.specs.Put.{Put};
+ghost use Rattle.writer.specs.WrittenSteps.{shows, bitSteps, byteSteps, plainGap, sentSteps, closing, emptySteps, opening};
+ghost use Rattle.writer.specs.WrittenSteps.{acknowledged, valueSteps};
 use crate::card::Card;
 use recording::Step;
 

@@ -1,11 +1,7 @@
 // The steps of a whole string, one byte after another.
-ghost use mathlib.Core.Path.{_≡_};
-ghost use Prim.Native.Nat.{_≤_};
-ghost use lib.ListN.{length};
+ghost use Rattle.answer.specs.Basics.{_≤_, length, _≡_};
 ghost use Rattle.recording.specs.Layout.{fileLength};
-ghost use Rattle.writer.specs.WrittenSteps.{writtenSteps};
-ghost use Rattle.writer.specs.Written.{mostBytes, writtenStepCount};
-ghost use Rattle.writer.specs.Put.{withSteps};
+ghost use Rattle.writer.specs.{WrittenSteps.writtenSteps, Written.mostBytes, Written.writtenStepCount, Put.withSteps};
 use crate::card::Card;
 use crate::steps;
 

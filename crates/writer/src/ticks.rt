@@ -1,6 +1,5 @@
 // How many ticks a written recording has.
-ghost use mathlib.Core.Path.{_≡_};
-ghost use Prim.Native.Nat.{_+_, _*_, _≤_};
+ghost use Rattle.answer.specs.Basics.{_+_, _*_, _≤_, _≡_};
 ghost use Rattle.writer.specs.Written.{mostBytes, writtenTicks};
 use crate::card::Card;
 
