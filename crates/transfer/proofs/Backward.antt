@@ -126,16 +126,16 @@ module _ (L : Limits) where
   row-first-hold true false now w ih i = dead _ _ _
   row-first-hold false false now w ih i = dead _ _ _
 
-  row-hold : (m : Bool) (v t g : ℕ) (c d : Bool) → Row (Hold m v t g) c d
+  row-hold : (end-mark : Bool) (value t g : ℕ) (c d : Bool) → Row (Hold end-mark value t g) c d
   unfolding next
-  row-hold m v t g true true now w ih i = goes clockHeld (λ js l h. stay h) (ih (suc now) (Hold m v t g) tt)
-  row-hold m v t g false true now w ih i =
+  row-hold end-mark value t g true true now w ih i = goes clockHeld (λ js l h. stay h) (ih (suc now) (Hold end-mark value t g) tt)
+  row-hold end-mark value t g false true now w ih i =
       unless-below _ _ _ _ _ _ _
-      (λ late. hands held (record { value = v; «let_go» = g; take = t })
+      (λ late. hands held (record { value = value; «let_go» = g; take = t })
       (λ js l h. leaves (record { late = late; others = l; hands = refl; after = one h }))
-      (ih (suc now) (ReadyToSend true m) tt))
-  row-hold m v t g true false now w ih i = dead _ _ _
-  row-hold m v t g false false now w ih i = dead _ _ _
+      (ih (suc now) (ReadyToSend true end-mark) tt))
+  row-hold end-mark value t g true false now w ih i = dead _ _ _
+  row-hold end-mark value t g false false now w ih i = dead _ _ _
 
   row-acknowledgement : (some-handed : Bool) (s ready-tick : ℕ) (c d : Bool) → Row (Acknowledgement some-handed s ready-tick) c d
   unfolding next
@@ -154,34 +154,35 @@ module _ (L : Limits) where
       goes nobody (λ js l h. record { count = suc (h .count); is = ap (λ x. nobody ∷ x) (h .is); bytes = h .bytes })
       (ih (suc now) (End f) tt)
 
-  row-open : (m : Bool) (v s l : ℕ) (c d : Bool) → Row (Open m v s l) c d
+  row-open : (end-mark : Bool) (value s l : ℕ) (c d : Bool) → Row (Open end-mark value s l) c d
   unfolding next
-  row-open m v s l false d now w ih i = dead _ _ _
-  row-open m v s l true false now w ih i =
-      if-below _ _ _ _ _ _ _ (λ a. goes clock (λ js l h. stay h) (ih (suc now) (Open m v s l) (omega arith)))
-  row-open m v s l true true now w ih i = goes clockHeld (λ js l h. leaves (i, one h)) (ih (suc now) (Hold m v now l) tt)
+  row-open end-mark value s l false d now w ih i = dead _ _ _
+  row-open end-mark value s l true false now w ih i =
+      if-below _ _ _ _ _ _ _ (λ a. goes clock (λ js l h. stay h) (ih (suc now) (Open end-mark value s l) (omega arith)))
+  row-open end-mark value s l true true now w ih i =
+      goes clockHeld (λ js l h. leaves (i, one h)) (ih (suc now) (Hold end-mark value now l) tt)
 
   module _ (times : Consistent L) where
-    row-carried : (m : Bool) (v s : ℕ) (c d : Bool) → Row (Carried m v s) c d
+    row-carried : (end-mark : Bool) (value s : ℕ) (c d : Bool) → Row (Carried end-mark value s) c d
     unfolding next
-    row-carried m v s false false now w ih i = dead _ _ _
-    row-carried m v s true true now w ih i = record { prove = λ h. on _ (ih (suc now) (Carried m v s) tt .prove h) }
+    row-carried end-mark value s false false now w ih i = dead _ _ _
+    row-carried end-mark value s true true now w ih i = record { prove = λ h. on _ (ih (suc now) (Carried end-mark value s) tt .prove h) }
       where
-        by-shape : (l : List Byte) (js : List Pulls) → w ≡ map shows js → Shape L (Carried m v s) (suc now) js l
-            → From (Carried m v s) now (lines true true ∷ w) l
+        by-shape : (l : List Byte) (js : List Pulls) → w ≡ map shows js → Shape L (Carried end-mark value s) (suc now) js l
+            → From (Carried end-mark value s) now (lines true true ∷ w) l
         by-shape l js e (inl h) = record { js = clockKept ∷ js; gives = ap (λ x. lines true true ∷ x) e; shape = inl (stay h) }
         by-shape l js e (inr h) = record { js = clockHeld ∷ js; gives = ap (λ x. lines true true ∷ x) e; shape = inr (stay h) }
 
-        on : (l : List Byte) → From (Carried m v s) (suc now) w l → From (Carried m v s) now (lines true true ∷ w) l
+        on : (l : List Byte) → From (Carried end-mark value s) (suc now) w l → From (Carried end-mark value s) now (lines true true ∷ w) l
         on l r = by-shape l (r .js) (r .gives) (r .shape)
-    row-carried m v s true false now w ih i =
+    row-carried end-mark value s true false now w ih i =
         if-upTo _ _ _ _ _ _ _
-        (λ a. goes clock (λ js l h. inl (leaves (a, one h))) (ih (suc now) (Open m v s now) (omega (arith, times .keep-take))))
-    row-carried m v s false true now w ih i =
+        (λ a. goes clock (λ js l h. inl (leaves (a, one h))) (ih (suc now) (Open end-mark value s now) (omega (arith, times .keep-take))))
+    row-carried end-mark value s false true now w ih i =
         unless-upTo _ _ _ _ _ _ _
-        (λ late. hands held (record { value = v; «let_go» = s + 1; take = s + 1 })
+        (λ late. hands held (record { value = value; «let_go» = s + 1; take = s + 1 })
         (λ js l h. inr (leaves (record { late = late; others = l; hands = refl; after = one h })))
-        (ih (suc now) (ReadyToSend true m) tt))
+        (ih (suc now) (ReadyToSend true end-mark) tt))
 
     row-ready-for-data : (some-handed : Bool) (s : ℕ) (c d : Bool) → Row (ReadyForData some-handed s) c d
     unfolding next
@@ -208,16 +209,18 @@ module _ (L : Limits) where
         if-below _ _ _ _ _ _ _ (λ a. goes nobody (λ js l h. stay h) (ih (suc now) (Acknowledged true s ready-tick) tt))
 
     -- The last set-up tick shows b, and the first valid tick too.
-    to-valid : (m : Bool) (bits-left v s : ℕ) (b : Bool) (now : ℕ) (w : List Lines) → Holds w → InTime (SetUp m v b s bits-left) now
-        → Sound (From (SetUp m v b s bits-left) now (lines false b ∷ w)) (run L (suc now) (Valid m v b now bits-left) w)
-    to-valid m bits-left v s b now w ih i =
+    to-valid : (end-mark : Bool) (bits-left value s : ℕ) (b : Bool) (now : ℕ) (w : List Lines) → Holds w
+        → InTime (SetUp end-mark value b s bits-left) now
+        → Sound (From (SetUp end-mark value b s bits-left) now (lines false b ∷ w))
+        (run L (suc now) (Valid end-mark value b now bits-left) w)
+    to-valid end-mark bits-left value s b now w ih i =
         goes (offers b)
         (λ js l h. record { pulled = []; till = now; rest = offers b ∷ js; ends = omega arith; fits = i; splits = refl; after = one h })
-        (ih (suc now) (Valid m v b now bits-left) (omega (arith, times .valid-some, times .valid-room)))
+        (ih (suc now) (Valid end-mark value b now bits-left) (omega (arith, times .valid-some, times .valid-room)))
 
-    row-set-up : (m : Bool) (bits-left v s : ℕ) (b c d : Bool) → Row (SetUp m v b s bits-left) c d
+    row-set-up : (end-mark : Bool) (bits-left value s : ℕ) (b c d : Bool) → Row (SetUp end-mark value b s bits-left) c d
     unfolding next same
-    row-set-up m bits-left v s b true d now w ih i =
+    row-set-up end-mark bits-left value s b true d now w ih i =
         if-below _ _ _ _ _ _ _
         (λ a.
         goes (sets d)
@@ -231,37 +234,38 @@ module _ (L : Limits) where
           splits = ap (λ x. sets d ∷ x) (h .splits);
           after = h .after;
         })
-        (ih (suc now) (SetUp m v d s bits-left) (omega arith)))
-    row-set-up m bits-left v s true false true now w ih i = to-valid m bits-left v s true now w ih i
-    row-set-up m bits-left v s false false false now w ih i = to-valid m bits-left v s false now w ih i
-    row-set-up m bits-left v s true false false now w ih i = dead _ _ _
-    row-set-up m bits-left v s false false true now w ih i = dead _ _ _
+        (ih (suc now) (SetUp end-mark value d s bits-left) (omega arith)))
+    row-set-up end-mark bits-left value s true false true now w ih i = to-valid end-mark bits-left value s true now w ih i
+    row-set-up end-mark bits-left value s false false false now w ih i = to-valid end-mark bits-left value s false now w ih i
+    row-set-up end-mark bits-left value s true false false now w ih i = dead _ _ _
+    row-set-up end-mark bits-left value s false false true now w ih i = dead _ _ _
 
-    on-valid : (m : Bool) (bits-left v s : ℕ) (b : Bool) (now : ℕ) (w : List Lines) → Holds w → InTime (Valid m v b s bits-left) now
-        → Sound (From (Valid m v b s bits-left) now (lines false b ∷ w))
-        (onward (if below (L .«valid_most») s now then Go (Valid m v b s bits-left)
+    on-valid : (end-mark : Bool) (bits-left value s : ℕ) (b : Bool) (now : ℕ) (w : List Lines) → Holds w
+        → InTime (Valid end-mark value b s bits-left) now
+        → Sound (From (Valid end-mark value b s bits-left) now (lines false b ∷ w))
+        (onward (if below (L .«valid_most») s now then Go (Valid end-mark value b s bits-left)
         else Stop ClockStall) now (λ (q : Phase). run L (suc now) q w))
-    on-valid m bits-left v s b now w ih i =
-        if-below _ _ _ _ _ _ _ (λ a. goes (offers b) (λ js l h. stay h) (ih (suc now) (Valid m v b s bits-left) (omega arith)))
+    on-valid end-mark bits-left value s b now w ih i =
+        if-below _ _ _ _ _ _ _ (λ a. goes (offers b) (λ js l h. stay h) (ih (suc now) (Valid end-mark value b s bits-left) (omega arith)))
 
-    row-valid : (m : Bool) (bits-left v s : ℕ) (b c d : Bool) → Row (Valid m v b s bits-left) c d
+    row-valid : (end-mark : Bool) (bits-left value s : ℕ) (b c d : Bool) → Row (Valid end-mark value b s bits-left) c d
     unfolding next same afterBit handover
-    row-valid m bits-left v s true false true now w ih i = on-valid m bits-left v s true now w ih i
-    row-valid m bits-left v s false false false now w ih i = on-valid m bits-left v s false now w ih i
-    row-valid m bits-left v s true false false now w ih i = dead _ _ _
-    row-valid m bits-left v s false false true now w ih i = dead _ _ _
-    row-valid m (suc bits-left) v s b true d now w ih i =
+    row-valid end-mark bits-left value s true false true now w ih i = on-valid end-mark bits-left value s true now w ih i
+    row-valid end-mark bits-left value s false false false now w ih i = on-valid end-mark bits-left value s false now w ih i
+    row-valid end-mark bits-left value s true false false now w ih i = dead _ _ _
+    row-valid end-mark bits-left value s false false true now w ih i = dead _ _ _
+    row-valid end-mark (suc bits-left) value s b true d now w ih i =
         unless-below _ _ _ _ _ _ _
         (λ a. goes (sets d) (λ js l h. leaves (a, i, (d, one h)))
-        (ih (suc now) (SetUp m (withBit v b) d now bits-left) (omega (arith, times .set-up-some))))
-    row-valid m zero v s b true false now w ih i =
+        (ih (suc now) (SetUp end-mark (withBit value b) d now bits-left) (omega (arith, times .set-up-some))))
+    row-valid end-mark zero value s b true false now w ih i =
         unless-below _ _ _ _ _ _ _
         (λ a. goes clock (λ js l h. leaves (a, i, opens (one h)))
-        (ih (suc now) (Open m (withBit v b) now now) (omega (arith, times .keep-take))))
-    row-valid m zero v s true true true now w ih i =
+        (ih (suc now) (Open end-mark (withBit value b) now now) (omega (arith, times .keep-take))))
+    row-valid end-mark zero value s true true true now w ih i =
         unless-below _ _ _ _ _ _ _
-        (λ a. goes clockKept (λ js l h. leaves (a, i, carries refl (one h))) (ih (suc now) (Carried m (withBit v true) now) tt))
-    row-valid m zero v s false true true now w ih i = unless-below _ _ _ _ _ _ _ (λ a. dead _ _ _)
+        (λ a. goes clockKept (λ js l h. leaves (a, i, carries refl (one h))) (ih (suc now) (Carried end-mark (withBit value true) now) tt))
+    row-valid end-mark zero value s false true true now w ih i = unless-below _ _ _ _ _ _ _ (λ a. dead _ _ _)
 
     row-ready-to-send : (some-handed ended c d : Bool) → Row (ReadyToSend some-handed ended) c d
     unfolding next
@@ -277,15 +281,15 @@ module _ (L : Limits) where
     unfolding next
     row Start c d = row-start c d
     row FirstHold c d = row-first-hold c d
-    row (Hold m v t g) c d = row-hold m v t g c d
+    row (Hold end-mark value t g) c d = row-hold end-mark value t g c d
     row (ReadyToSend some-handed ended) c d = row-ready-to-send some-handed ended c d
     row (ReadyForData some-handed s) c d = row-ready-for-data some-handed s c d
     row (Acknowledgement some-handed s ready-tick) c d = row-acknowledgement some-handed s ready-tick c d
     row (Acknowledged some-handed s ready-tick) c d = row-acknowledged some-handed s ready-tick c d
-    row (SetUp m v b s bits-left) c d = row-set-up m bits-left v s b c d
-    row (Valid m v b s bits-left) c d = row-valid m bits-left v s b c d
-    row (Open m v s l) c d = row-open m v s l c d
-    row (Carried m v s) c d = row-carried m v s c d
+    row (SetUp end-mark value b s bits-left) c d = row-set-up end-mark bits-left value s b c d
+    row (Valid end-mark value b s bits-left) c d = row-valid end-mark bits-left value s b c d
+    row (Open end-mark value s l) c d = row-open end-mark value s l c d
+    row (Carried end-mark value s) c d = row-carried end-mark value s c d
     row (End f) c d = row-end f c d
     row (Decided f) c d = λ now w ih i. dead _ _ _
 

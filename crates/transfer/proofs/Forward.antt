@@ -106,96 +106,104 @@ module _ (L : Limits) where
       ∙ enters FirstHold (ReadyToSend false false) false false true wait (found + hold) js (let-go .later) refl (λ i x y. refl)
 
   -- A set-up's further ticks.
-  along-set-up : (m : Bool) (bits-left v s now : ℕ) (d : Bool) (ds : List Bool) (js : List Pulls) → now + length ds ≤ s + L .«set_up_most»
-      → run L now (SetUp m v d s bits-left) (map shows (map sets ds ++ js))
-      ≡ run L (now + length ds) (SetUp m v (lastOf d ds) s bits-left) (map shows js)
+  along-set-up : (end-mark : Bool) (bits-left value s now : ℕ) (d : Bool) (ds : List Bool) (js : List Pulls)
+      → now + length ds ≤ s + L .«set_up_most»
+      → run L now (SetUp end-mark value d s bits-left) (map shows (map sets ds ++ js))
+      ≡ run L (now + length ds) (SetUp end-mark value (lastOf d ds) s bits-left) (map shows js)
   unfolding next
-  along-set-up m bits-left v s now d [] js h = at-tick _ _ (omega arith)
-  along-set-up m bits-left v s now d (e ∷ ds) js h =
-      step now (SetUp m v d s bits-left) (SetUp m v e s bits-left) true e _ (is-below _ _ _ _ _ (omega arith))
-      ∙ along-set-up m bits-left v s (suc now) e ds js (omega arith)
+  along-set-up end-mark bits-left value s now d [] js h = at-tick _ _ (omega arith)
+  along-set-up end-mark bits-left value s now d (e ∷ ds) js h =
+      step now (SetUp end-mark value d s bits-left) (SetUp end-mark value e s bits-left) true e _ (is-below _ _ _ _ _ (omega arith))
+      ∙ along-set-up end-mark bits-left value s (suc now) e ds js (omega arith)
       ∙ at-tick _ _ (omega arith)
 
   -- One bit, from the tick after its first set-up tick `s` to its last valid tick.
-  along-bit : (m : Bool) (bits-left v s : ℕ) (x : Bit) (js : List Pulls) → 1 ≤ x .valid → BitRule L x
-      → run L (suc s) (SetUp m v (x .first) s bits-left)
+  along-bit : (end-mark : Bool) (bits-left value s : ℕ) (x : Bit) (js : List Pulls) → 1 ≤ x .valid → BitRule L x
+      → run L (suc s) (SetUp end-mark value (x .first) s bits-left)
       (map shows (map sets (x .others) ++ (replicate (x .valid) (offers (x .bit)) ++ js)))
-      ≡ run L (s + suc (length (x .others) + x .valid)) (Valid m v (x .bit) (suc s + length (x .others)) bits-left) (map shows js)
+      ≡ run L (s + suc (length (x .others) + x .valid)) (Valid end-mark value (x .bit) (suc s + length (x .others)) bits-left)
+      (map shows js)
   unfolding next
-  along-bit m bits-left v s x js one rules =
-      along-set-up m bits-left v s (suc s) (x .first) (x .others) _ (omega (arith, rules .set-up))
-      ∙ ap (λ (b : Bool). run L (suc s + length (x .others)) (SetUp m v b s bits-left)
+  along-bit end-mark bits-left value s x js one rules =
+      along-set-up end-mark bits-left value s (suc s) (x .first) (x .others) _ (omega (arith, rules .set-up))
+      ∙ ap (λ (b : Bool). run L (suc s + length (x .others)) (SetUp end-mark value b s bits-left)
       (map shows (replicate (x .valid) (offers (x .bit)) ++ js))) (sym (rules .steady))
-      ∙ enters (SetUp m v (x .bit) s bits-left) (Valid m v (x .bit) (suc s + length (x .others)) bits-left) false (x .bit) false (x .valid)
+      ∙ enters (SetUp end-mark value (x .bit) s bits-left) (Valid end-mark value (x .bit) (suc s + length (x .others)) bits-left)
+      false (x .bit) false (x .valid)
       (suc s + length (x .others)) js one (is-same (x .bit) _ _)
       (λ i a b. is-same (x .bit) _ _ ∙ is-below _ _ _ _ _ (omega (arith, rules .valid-most)))
       ∙ at-tick _ _ (omega arith)
 
   -- What follows the hold of a byte, or its carried handover, at tick `at`: the byte is handed over, and then r.
-  record Leaves (m : Bool) (js : List Pulls) (at : ℕ) (r : Outcome) : Type 0 where
-    from-hold : (v t l : ℕ) → t + L .«between_bytes» ≤ at
-        → run L at (Hold m v t l) (map shows js) ≡ give (heldByte (Hold m v t l)) r
-    from-carried : (v s : ℕ) → s + L .«between_bytes» < at
-        → run L at (Carried m v s) (map shows js) ≡ give (heldByte (Carried m v s)) r
+  record Leaves (end-mark : Bool) (js : List Pulls) (at : ℕ) (r : Outcome) : Type 0 where
+    from-hold : (value t l : ℕ) → t + L .«between_bytes» ≤ at
+        → run L at (Hold end-mark value t l) (map shows js) ≡ give (heldByte (Hold end-mark value t l)) r
+    from-carried : (value s : ℕ) → s + L .«between_bytes» < at
+        → run L at (Carried end-mark value s) (map shows js) ≡ give (heldByte (Carried end-mark value s)) r
 
   -- The sender releases CLK, which hands the byte over, and the receiver lets go k ticks later.
-  releases : (p : Phase) (m : Bool) (k at : ℕ) (js : List Pulls) → 1 ≤ k
-      → next L at p false true ≡ Hand (heldByte p) (ReadyToSend true m)
-      → run L at p (map shows (replicate k held ++ js)) ≡ give (heldByte p) (run L (at + k) (ReadyToSend true m) (map shows js))
+  releases : (p : Phase) (end-mark : Bool) (k at : ℕ) (js : List Pulls) → 1 ≤ k
+      → next L at p false true ≡ Hand (heldByte p) (ReadyToSend true end-mark)
+      → run L at p (map shows (replicate k held ++ js)) ≡ give (heldByte p) (run L (at + k) (ReadyToSend true end-mark) (map shows js))
   unfolding next
-  releases p m zero at js one e = absurd (omega arith)
-  releases p m (suc k) at js one e =
-      one-tick at p (Hand (heldByte p) (ReadyToSend true m)) false true _ e
-      ∙ ap (give (heldByte p)) (stays (ReadyToSend true m) false false true k (suc at) js (λ i x y. refl) ∙ at-tick _ _ (omega arith))
+  releases p end-mark zero at js one e = absurd (omega arith)
+  releases p end-mark (suc k) at js one e =
+      one-tick at p (Hand (heldByte p) (ReadyToSend true end-mark)) false true _ e
+      ∙ ap (give (heldByte p))
+      (stays (ReadyToSend true end-mark) false false true k (suc at) js (λ i x y. refl) ∙ at-tick _ _ (omega arith))
 
-  lets-go : (m : Bool) (k at : ℕ) (js : List Pulls) → LetGoRule L k
-      → Leaves m (replicate k held ++ js) at (run L (at + k) (ReadyToSend true m) (map shows js))
+  lets-go : (end-mark : Bool) (k at : ℕ) (js : List Pulls) → LetGoRule L k
+      → Leaves end-mark (replicate k held ++ js) at (run L (at + k) (ReadyToSend true end-mark) (map shows js))
   unfolding next
-  lets-go m k at js rule =
+  lets-go end-mark k at js rule =
       record {
-        from-hold = λ v t l h. releases (Hold m v t l) m k at js (rule .later) (not-below _ _ _ _ _ h);
-        from-carried = λ v s h. releases (Carried m v s) m k at js (rule .later) (not-upTo _ _ _ _ _ h);
+        from-hold = λ value t l h. releases (Hold end-mark value t l) end-mark k at js (rule .later) (not-below _ _ _ _ _ h);
+        from-carried = λ value s h. releases (Carried end-mark value s) end-mark k at js (rule .later) (not-upTo _ _ _ _ _ h);
       }
 
   -- A handover: CLK was pulled at tick `since`, the receiver takes at tick `take`, and from tick `at` on js follows.
-  module _ (m : Bool) (v since take at : ℕ) (js : List Pulls) (r : Outcome) (after : Leaves m js at r) (begun : since < take)
+  module _ (end-mark : Bool) (value since take at : ℕ) (js : List Pulls) (r : Outcome)
+      (after : Leaves end-mark js at r) (begun : since < take)
       (in-time : take ≤ since + L .«take_latest») (held-on : take < at) (late : take + L .«between_bytes» ≤ at) where
     -- The receiver holds DATA for n more ticks.
     along-hold : (l n now : ℕ) → now + n ≡ at
-        → run L now (Hold m v take l) (map shows (handoverTicks n 0 0 ++ js)) ≡ give (heldByte (Hold m v take l)) r
+        → run L now (Hold end-mark value take l) (map shows (handoverTicks n 0 0 ++ js)) ≡ give (heldByte (Hold end-mark value take l)) r
     unfolding next
-    along-hold l zero now e = at-tick _ _ (omega arith) ∙ after .from-hold v take l late
+    along-hold l zero now e = at-tick _ _ (omega arith) ∙ after .from-hold value take l late
     along-hold l (suc n) now e =
-        step now (Hold m v take l) (Hold m v take l) true true _ refl ∙ along-hold l n (suc now) (omega arith)
+        step now (Hold end-mark value take l) (Hold end-mark value take l) true true _ refl ∙ along-hold l n (suc now) (omega arith)
 
     -- Open, with the take t ticks ahead.
     along-open : (l t n now : ℕ) → now + t ≡ take → now + n ≡ at
-        → run L now (Open m v since l) (map shows (handoverTicks n 0 t ++ js)) ≡ give (heldByte (Hold m v take l)) r
+        → run L now (Open end-mark value since l) (map shows (handoverTicks n 0 t ++ js)) ≡ give (heldByte (Hold end-mark value take l)) r
     unfolding next
     along-open l t zero now d e = absurd (omega arith)
     along-open l zero (suc n) now d e =
-        step now (Open m v since l) (Hold m v take l) true true _ (ap (λ (t : ℕ). Go (Hold m v t l)) (omega arith))
+        step now (Open end-mark value since l) (Hold end-mark value take l) true true _
+        (ap (λ (t : ℕ). Go (Hold end-mark value t l)) (omega arith))
         ∙ along-hold l n (suc now) (omega arith)
     along-open l (suc t) (suc n) now d e =
-        step now (Open m v since l) (Open m v since l) true false _ (is-below _ _ _ _ _ (omega arith))
+        step now (Open end-mark value since l) (Open end-mark value since l) true false _ (is-below _ _ _ _ _ (omega arith))
         ∙ along-open l t n (suc now) (omega arith) (omega arith)
 
     -- Carried, with the receiver on DATA, alone or beside the sender, for n more ticks.
     along-both : (l n now : ℕ) → now + n ≡ at
-        → run L now (Carried m v since) (map shows (handoverTicks n l 0 ++ js)) ≡ give (heldByte (Carried m v since)) r
+        → run L now (Carried end-mark value since) (map shows (handoverTicks n l 0 ++ js))
+        ≡ give (heldByte (Carried end-mark value since)) r
     unfolding next
-    along-both l zero now e = at-tick _ _ (omega arith) ∙ after .from-carried v since (omega arith)
+    along-both l zero now e = at-tick _ _ (omega arith) ∙ after .from-carried value since (omega arith)
     along-both l (suc n) now e =
-        step now (Carried m v since) (Carried m v since) true true _ refl ∙ along-both (less l) n (suc now) (omega arith)
+        step now (Carried end-mark value since) (Carried end-mark value since) true true _ refl
+        ∙ along-both (less l) n (suc now) (omega arith)
 
     -- Carried, with the letting go l ticks ahead and the take t.
     along-carried : (let-go l t n now : ℕ) → let-go ≤ since + L .«keep_most» → since < now → now + l ≡ let-go → now + t ≡ take
         → now + n ≡ at
-        → Hands (run L now (Carried m v since) (map shows (handoverTicks n l t ++ js))) r
-        (record { value = v; «let_go» = let-go; take = take })
+        → Hands (run L now (Carried end-mark value since) (map shows (handoverTicks n l t ++ js))) r
+        (record { value = value; «let_go» = let-go; take = take })
     unfolding next
     along-carried let-go l zero n now k b c d e =
-        let handed = heldByte (Carried m v since) in
+        let handed = heldByte (Carried end-mark value since) in
         record { let-go = handed .«let_go»; take = handed .take; is = along-both l n now e; let-go-by = omega arith; take-by = omega arith }
     along-carried let-go l (suc t) zero now k b c d e = absurd (omega arith)
     along-carried let-go zero (suc t) (suc n) now k b c d e =
@@ -203,20 +211,20 @@ module _ (L : Limits) where
           let-go = now;
           take = take;
           is =
-              step now (Carried m v since) (Open m v since now) true false _ (is-upTo _ _ _ _ _ (omega arith))
+              step now (Carried end-mark value since) (Open end-mark value since now) true false _ (is-upTo _ _ _ _ _ (omega arith))
               ∙ along-open now t n (suc now) (omega arith) (omega arith);
           let-go-by = omega arith;
           take-by = omega arith;
         }
     along-carried let-go (suc l) (suc t) (suc n) now k b c d e =
-        then-hands (step now (Carried m v since) (Carried m v since) true true _ refl)
+        then-hands (step now (Carried end-mark value since) (Carried end-mark value since) true true _ refl)
         (along-carried let-go l t n (suc now) k (omega arith) (omega arith) (omega arith) (omega arith))
 
     -- From the CLK pull after bit 8 on.
     along-handover : (bit8 : Bool) (l t n : ℕ) → (bit8 ≡ false → l ≡ 0) → l ≤ L .«keep_most» → since + suc t ≡ take → since + suc n ≡ at
-        → Hands (onward (handover m v since bit8 (isPositive l)) since
+        → Hands (onward (handover end-mark value since bit8 (isPositive l)) since
         (λ (q : Phase). run L (suc since) q (map shows (handoverTicks n (less l) t ++ js)))) r
-        (record { value = v; «let_go» = since + l; take = take })
+        (record { value = value; «let_go» = since + l; take = take })
     unfolding handover
     along-handover bit8 zero t n z k d e =
         record {
@@ -254,62 +262,63 @@ module _ (L : Limits) where
         (λ i x y. is-below _ _ _ _ _ (omega (arith, times .timeout)))
 
     -- Bits, from the tick after the first set-up tick to the CLK pull after the last of them, which shows DATA d.
-    along-bits : (m : Bool) (v now : ℕ) (x : Bit) (xs : List Bit) (d : Bool) (js : List Pulls) → BitRule L x → BitRules L xs
-        → run L (suc now) (SetUp m v (x .first) now (length xs))
+    along-bits : (end-mark : Bool) (value now : ℕ) (x : Bit) (xs : List Bit) (d : Bool) (js : List Pulls) → BitRule L x → BitRules L xs
+        → run L (suc now) (SetUp end-mark value (x .first) now (length xs))
         (map shows (map sets (x .others) ++ (replicate (x .valid) (offers (x .bit)) ++ bitsTrack xs (sets d ∷ js))))
-        ≡ onward (handover m (takenIn v (x ∷ xs)) (now + bitsTicks (x ∷ xs)) (lastBit (x .bit) xs) d) (now + bitsTicks (x ∷ xs))
+        ≡ onward (handover end-mark (takenIn value (x ∷ xs)) (now + bitsTicks (x ∷ xs)) (lastBit (x .bit) xs) d) (now + bitsTicks (x ∷ xs))
         (λ (q : Phase). run L (suc (now + bitsTicks (x ∷ xs))) q (map shows js))
     unfolding next afterBit
-    along-bits m v now x [] d js rules all =
-        along-bit m 0 v now x (sets d ∷ js) (omega (arith, times .valid-some, rules .valid-least)) rules
-        ∙ one-tick _ (Valid m v (x .bit) (suc now + length (x .others)) 0)
-        (handover m (withBit v (x .bit)) (now + suc (length (x .others) + x .valid)) (x .bit) d) true d _
+    along-bits end-mark value now x [] d js rules all =
+        along-bit end-mark 0 value now x (sets d ∷ js) (omega (arith, times .valid-some, rules .valid-least)) rules
+        ∙ one-tick _ (Valid end-mark value (x .bit) (suc now + length (x .others)) 0)
+        (handover end-mark (withBit value (x .bit)) (now + suc (length (x .others) + x .valid)) (x .bit) d) true d _
         (not-below _ _ _ _ _ (omega (arith, rules .valid-least)))
-        ∙ ap (λ e. onward (handover m (withBit v (x .bit)) e (x .bit) d) e (λ (q : Phase). run L (suc e) q (map shows js))) (omega arith)
-    along-bits m v now x (y ∷ ys) d js rules all =
-        along-bit m (suc (length ys)) v now x _ (omega (arith, times .valid-some, rules .valid-least)) rules
-        ∙ step _ (Valid m v (x .bit) (suc now + length (x .others)) (suc (length ys)))
-        (SetUp m (withBit v (x .bit)) (y .first) (now + suc (length (x .others) + x .valid)) (length ys)) true (y .first) _
+        ∙ ap (λ e. onward (handover end-mark (withBit value (x .bit)) e (x .bit) d) e (λ (q : Phase). run L (suc e) q (map shows js)))
+        (omega arith)
+    along-bits end-mark value now x (y ∷ ys) d js rules all =
+        along-bit end-mark (suc (length ys)) value now x _ (omega (arith, times .valid-some, rules .valid-least)) rules
+        ∙ step _ (Valid end-mark value (x .bit) (suc now + length (x .others)) (suc (length ys)))
+        (SetUp end-mark (withBit value (x .bit)) (y .first) (now + suc (length (x .others) + x .valid)) (length ys)) true (y .first) _
         (not-below _ _ _ _ _ (omega (arith, rules .valid-least)))
-        ∙ along-bits m (withBit v (x .bit)) (now + suc (length (x .others) + x .valid)) y ys d js (all .0) (all .1)
-        ∙ ap (λ e. onward (handover m (takenIn v (x ∷ y ∷ ys)) e (lastBit (y .bit) ys) d) e
+        ∙ along-bits end-mark (withBit value (x .bit)) (now + suc (length (x .others) + x .valid)) y ys d js (all .0) (all .1)
+        ∙ ap (λ e. onward (handover end-mark (takenIn value (x ∷ y ∷ ys)) e (lastBit (y .bit) ys) d) e
         (λ (q : Phase). run L (suc e) q (map shows js))) (omega arith)
 
     -- A phase that a CLK pull at tick e leaves for the bits of a byte.
     abbrev Begins : Bool → ℕ → Phase → Type 0
-    Begins m e p = (d : Bool) → next L e p true d ≡ Go (SetUp m 0 d e 7)
+    Begins end-mark e p = (d : Bool) → next L e p true d ≡ Go (SetUp end-mark 0 d e 7)
 
-    seven-left : (m : Bool) (e : ℕ) (d : Bool) (w : List Lines) {bits-left : ℕ} → bits-left ≡ 7
-        → run L (suc e) (SetUp m 0 d e 7) w ≡ run L (suc e) (SetUp m 0 d e bits-left) w
-    seven-left m e d w h = ap (λ (bits-left : ℕ). run L (suc e) (SetUp m 0 d e bits-left) w) (sym h)
+    seven-left : (end-mark : Bool) (e : ℕ) (d : Bool) (w : List Lines) {bits-left : ℕ} → bits-left ≡ 7
+        → run L (suc e) (SetUp end-mark 0 d e 7) w ≡ run L (suc e) (SetUp end-mark 0 d e bits-left) w
+    seven-left end-mark e d w h = ap (λ (bits-left : ℕ). run L (suc e) (SetUp end-mark 0 d e bits-left) w) (sym h)
 
     -- A byte, from the CLK pull that begins its bits to what follows its hold.
-    along-fields : (m : Bool) (p : Phase) (e : ℕ) (bits : List Bit) (l t n : ℕ) (js : List Pulls) (r : Outcome) → Begins m e p
+    along-fields : (end-mark : Bool) (p : Phase) (e : ℕ) (bits : List Bit) (l t n : ℕ) (js : List Pulls) (r : Outcome) → Begins end-mark e p
         → let f : Frame = record { bits = bits; let-go = l; take = t; release = n } in
-        FrameRules L f → Leaves m js (afterFrame e f) r → Hands (run L e p (map shows (frameTicks f js))) r (byteOf e f)
-    along-fields m p e [] l t n js r b rules after = absurd (omega (arith, rules .bits .eight))
-    along-fields m p e (x ∷ xs) l zero n js r b rules after = absurd (omega (arith, rules .handover .take-least))
-    along-fields m p e (x ∷ xs) l (suc t) zero js r b rules after = absurd (omega (arith, rules .release .after-take))
-    along-fields m p e (x ∷ xs) l (suc t) (suc n) js r b rules after =
+        FrameRules L f → Leaves end-mark js (afterFrame e f) r → Hands (run L e p (map shows (frameTicks f js))) r (byteOf e f)
+    along-fields end-mark p e [] l t n js r b rules after = absurd (omega (arith, rules .bits .eight))
+    along-fields end-mark p e (x ∷ xs) l zero n js r b rules after = absurd (omega (arith, rules .handover .take-least))
+    along-fields end-mark p e (x ∷ xs) l (suc t) zero js r b rules after = absurd (omega (arith, rules .release .after-take))
+    along-fields end-mark p e (x ∷ xs) l (suc t) (suc n) js r b rules after =
         let seven : length xs ≡ 7 = omega (arith, rules .bits .eight) in
         let since = e + bitsTicks (x ∷ xs) in
         subst
-        (λ (v : ℕ). Hands (run L e p (map shows (bitsTrack (x ∷ xs) (handoverTicks (suc n) l (suc t) ++ js)))) r
-        (record { value = v; «let_go» = since + l; take = since + suc t })) (eight-bits (x ∷ xs) (rules .bits .eight))
+        (λ (value : ℕ). Hands (run L e p (map shows (bitsTrack (x ∷ xs) (handoverTicks (suc n) l (suc t) ++ js)))) r
+        (record { value = value; «let_go» = since + l; take = since + suc t })) (eight-bits (x ∷ xs) (rules .bits .eight))
         (then-hands
-        (step e p (SetUp m 0 (x .first) e 7) true (x .first) _ (b (x .first))
-        ∙ seven-left m e (x .first) _ seven
-        ∙ along-bits m 0 e x xs (isPositive l) (handoverTicks n (less l) t ++ js) (rules .bits .each .0) (rules .bits .each .1))
-        (along-handover m (takenIn 0 (x ∷ xs)) since (since + suc t) (since + suc n) js r after (omega arith)
+        (step e p (SetUp end-mark 0 (x .first) e 7) true (x .first) _ (b (x .first))
+        ∙ seven-left end-mark e (x .first) _ seven
+        ∙ along-bits end-mark 0 e x xs (isPositive l) (handoverTicks n (less l) t ++ js) (rules .bits .each .0) (rules .bits .each .1))
+        (along-handover end-mark (takenIn 0 (x ∷ xs)) since (since + suc t) (since + suc n) js r after (omega arith)
         (omega (arith, rules .handover .take-most))
         (omega (arith, rules .release .after-take, times .keep-release, times .keep-some)) (omega (arith, rules .release .after-take))
         (lastBit (x .bit) xs) l t n (rules .handover .zero-keeps-not) (rules .handover .keeps) refl refl))
 
-    along-frame : (m : Bool) (p : Phase) (e : ℕ) (f : Frame) (js : List Pulls) (r : Outcome) → Begins m e p → FrameRules L f
-        → Leaves m js (afterFrame e f) r → Hands (run L e p (map shows (frameTrack f js))) r (byteOf e f)
-    along-frame m p e f js r b rules after =
+    along-frame : (end-mark : Bool) (p : Phase) (e : ℕ) (f : Frame) (js : List Pulls) (r : Outcome) → Begins end-mark e p → FrameRules L f
+        → Leaves end-mark js (afterFrame e f) r → Hands (run L e p (map shows (frameTrack f js))) r (byteOf e f)
+    along-frame end-mark p e f js r b rules after =
         then-hands (ap (λ (js : List Pulls). run L e p (map shows js)) (frame-ticks f js))
-        (along-fields m p e (f .bits) (f .let-go) (f .take) (f .release) js r b rules after)
+        (along-fields end-mark p e (f .bits) (f .let-go) (f .take) (f .release) js r b rules after)
 
     along-end : (silence now : ℕ) → 1 ≤ silence
         → run L now (ReadyToSend true true) (map shows (replicate silence nobody)) ≡ ended (End now) now

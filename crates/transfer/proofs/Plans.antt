@@ -38,7 +38,7 @@ bit-splits d pulled c n p q r s =
 
 module _ (L : Limits) where
   -- A handover that begins at tick e, as a frame has it.
-  record HandoverPlan (mark bit8 : Bool) (value e : ℕ) (js : List Pulls) (l : List Byte) : Type 0 where
+  record HandoverPlan (end-mark bit8 : Bool) (value e : ℕ) (js : List Pulls) (l : List Byte) : Type 0 where
     let-go : ℕ
     take : ℕ
     release : ℕ
@@ -49,19 +49,19 @@ module _ (L : Limits) where
     tidy : let-go ≤ take
     is : js ≡ handoverTicks release let-go take ++ rest
     bytes : l ≡ record { value = value; «let_go» = e + let-go; take = e + take } ∷ others
-    after : AfterHold L mark (e + release) rest others
+    after : AfterHold L end-mark (e + release) rest others
 
   -- From tick `now` on the receiver holds DATA, until the byte is handed over, `earliest` or later.
-  abbrev Holding : (mark : Bool) (value : ℕ) (l : List Byte) (let-go take now earliest : ℕ) → List Pulls → Type 0
-  Holding mark value l let-go take now earliest js =
-      Stays clockHeld (HandsOver L (record { value = value; «let_go» = let-go; take = take }) mark earliest) now js l
+  abbrev Holding : (end-mark : Bool) (value : ℕ) (l : List Byte) (let-go take now earliest : ℕ) → List Pulls → Type 0
+  Holding end-mark value l let-go take now earliest js =
+      Stays clockHeld (HandsOver L (record { value = value; «let_go» = let-go; take = take }) end-mark earliest) now js l
 
   -- What stands before the take, a ticks with DATA pulled by the sender and t ticks open; then the receiver's hold.
-  handover-of : (mark bit8 : Bool) (value e a t take let-go : ℕ) (js js′ : List Pulls) (l : List Byte)
+  handover-of : (end-mark bit8 : Bool) (value e a t take let-go : ℕ) (js js′ : List Pulls) (l : List Byte)
       → js ≡ replicate a clockKept ++ (replicate t clock ++ js′) → e + a ≡ let-go → a + t ≡ take → HandoverRule L bit8 a take
-      → Holding mark value l let-go (e + take) (e + take) (e + take + L .«between_bytes») js′
-      → HandoverPlan mark bit8 value e js l
-  handover-of mark bit8 value e a t take let-go js js′ l split at sum rule h =
+      → Holding end-mark value l let-go (e + take) (e + take) (e + take + L .«between_bytes») js′
+      → HandoverPlan end-mark bit8 value e js l
+  handover-of end-mark bit8 value e a t take let-go js js′ l split at sum rule h =
       record {
         let-go = a;
         take = take;
@@ -78,32 +78,32 @@ module _ (L : Limits) where
         bytes =
             h .after .hands
             ∙ ap (λ (x : ℕ). record { value = value; «let_go» = x; take = e + take } ∷ h .after .others) (sym at);
-        after = subst (λ (x : ℕ). AfterHold L mark x (h .rest) (h .after .others)) (omega (arith, h .ends)) (h .after .after);
+        after = subst (λ (x : ℕ). AfterHold L end-mark x (h .rest) (h .after .others)) (omega (arith, h .ends)) (h .after .after);
       }
 
   module _ (times : Consistent L) where
-    handover-plan : (mark bit8 : Bool) (value e : ℕ) (js : List Pulls) (l : List Byte) → Handover L mark bit8 value e js l
-        → HandoverPlan mark bit8 value e js l
-    handover-plan mark bit8 value e js l (opens f) =
+    handover-plan : (end-mark bit8 : Bool) (value e : ℕ) (js : List Pulls) (l : List Byte) → Handover L end-mark bit8 value e js l
+        → HandoverPlan end-mark bit8 value e js l
+    handover-plan end-mark bit8 value e js l (opens f) =
         let c = many f in
-        handover-of mark bit8 value e 0 (c .count) (c .count) e js (c .rest) l (c .splits) (omega arith) (omega arith)
+        handover-of end-mark bit8 value e 0 (c .count) (c .count) e js (c .rest) l (c .splits) (omega arith) (omega arith)
         (record {
           keeps = omega arith;
           zero-keeps-not = λ z. refl;
           take-least = c .some;
           take-most = omega (arith, c .ends, c .after .0);
         })
-        (subst⁻¹ (λ (x : ℕ). Holding mark value l e x x (x + L .«between_bytes») (c .rest)) (c .ends) (joined (c .after .1)))
-    handover-plan mark bit8 value e js l (carries b f) = at (f .after)
+        (subst⁻¹ (λ (x : ℕ). Holding end-mark value l e x x (x + L .«between_bytes») (c .rest)) (c .ends) (joined (c .after .1)))
+    handover-plan end-mark bit8 value e js l (carries b f) = at (f .after)
       where
         no-zero : (n : ℕ) → bit8 ≡ false → n ≡ 0
         no-zero n z = let q : _≡_ {A = ℕ} n 0 = cc in q
 
-        at : Carries L mark value e (suc e) (f .rest) l → HandoverPlan mark bit8 value e js l
+        at : Carries L end-mark value e (suc e) (f .rest) l → HandoverPlan end-mark bit8 value e js l
         at (inl h) =
             let a = many {js = js} (record { rest = f .rest; splits = f .splits; after = h }) in
             let c = many (a .after .1) in
-            handover-of mark bit8 value e (a .count) (c .count) (a .count + c .count) (a .till) js (c .rest) l
+            handover-of end-mark bit8 value e (a .count) (c .count) (a .count + c .count) (a .till) js (c .rest) l
             (a .splits ∙ ap (λ x. replicate (a .count) clockKept ++ x) (c .splits)) (a .ends) refl
             (record {
               keeps = omega (arith, a .ends, a .after .0);
@@ -111,21 +111,21 @@ module _ (L : Limits) where
               take-least = omega (arith, c .some);
               take-most = omega (arith, c .ends, a .ends, c .after .0);
             })
-            (subst⁻¹ (λ (x : ℕ). Holding mark value l (a .till) x x (x + L .«between_bytes») (c .rest)) (omega
+            (subst⁻¹ (λ (x : ℕ). Holding end-mark value l (a .till) x x (x + L .«between_bytes») (c .rest)) (omega
             (arith, c .ends, a .ends))
             (joined (c .after .1)))
         at (inr h) =
-            handover-of mark bit8 value e 1 0 1 (e + 1) js (f .rest) l (f .splits) refl refl
+            handover-of end-mark bit8 value e 1 0 1 (e + 1) js (f .rest) l (f .splits) refl refl
             (record {
               keeps = times .keep-some;
               zero-keeps-not = no-zero 1;
               take-least = omega arith;
               take-most = omega (arith, times .keep-take);
             })
-            (subst₂ (λ (x y : ℕ). Holding mark value l (e + 1) (e + 1) x y (f .rest)) (omega arith) (omega arith) h)
+            (subst₂ (λ (x y : ℕ). Holding end-mark value l (e + 1) (e + 1) x y (f .rest)) (omega arith) (omega arith) h)
 
     -- Bits, and the handover after them.
-    record BitsPlan (mark b : Bool) (bits-left value e : ℕ) (js : List Pulls) (l : List Byte) : Type 0 where
+    record BitsPlan (end-mark b : Bool) (bits-left value e : ℕ) (js : List Pulls) (l : List Byte) : Type 0 where
       bits : List Bit
       number : length bits ≡ bits-left
       rules : BitRules L bits
@@ -133,11 +133,11 @@ module _ (L : Limits) where
       rest : List Pulls
       ends : e + bitsTicks bits ≡ till
       is : js ≡ bitsTrack bits rest
-      after : HandoverPlan mark (lastBit b bits) (takenIn value bits) till rest l
+      after : HandoverPlan end-mark (lastBit b bits) (takenIn value bits) till rest l
 
-    bits-plan : (mark b : Bool) (bits-left value e : ℕ) (js : List Pulls) (l : List Byte) → Bits L mark bits-left value b e js l
-        → BitsPlan mark b bits-left value e js l
-    bits-plan mark b zero value e js l h =
+    bits-plan : (end-mark b : Bool) (bits-left value e : ℕ) (js : List Pulls) (l : List Byte) → Bits L end-mark bits-left value b e js l
+        → BitsPlan end-mark b bits-left value e js l
+    bits-plan end-mark b zero value e js l h =
         record {
           bits = [];
           number = refl;
@@ -146,15 +146,15 @@ module _ (L : Limits) where
           rest = js;
           ends = omega arith;
           is = refl;
-          after = handover-plan mark b value e js l h;
+          after = handover-plan end-mark b value e js l h;
         }
-    bits-plan mark b (suc bits-left) value e js l h =
+    bits-plan end-mark b (suc bits-left) value e js l h =
         let d = h .0 in
         let f = h .1 in
         let s = f .after in
         let c = lastOf d (s .pulled) in
         let o = many (s .after) in
-        let r = bits-plan mark c bits-left (withBit value c) (o .till) (o .rest) l (o .after .2) in
+        let r = bits-plan end-mark c bits-left (withBit value c) (o .till) (o .rest) l (o .after .2) in
         record {
           bits = record { first = d; others = s .pulled; bit = c; valid = o .count } ∷ r .bits;
           number = ap suc (r .number);
@@ -175,7 +175,7 @@ module _ (L : Limits) where
         }
 
     -- A byte whose bits begin at tick e.
-    record FramePlan (mark : Bool) (e : ℕ) (js : List Pulls) (l : List Byte) : Type 0 where
+    record FramePlan (end-mark : Bool) (e : ℕ) (js : List Pulls) (l : List Byte) : Type 0 where
       frame : Frame
       rules : FrameRules L frame
       tidy : frame .let-go ≤ frame .take
@@ -183,10 +183,10 @@ module _ (L : Limits) where
       others : List Byte
       is : js ≡ frameTrack frame rest
       bytes : l ≡ byteOf e frame ∷ others
-      after : AfterHold L mark (afterFrame e frame) rest others
+      after : AfterHold L end-mark (afterFrame e frame) rest others
 
-    frame-of : (mark : Bool) (e : ℕ) (js : List Pulls) (l : List Byte) → BitsPlan mark false 8 0 e js l → FramePlan mark e js l
-    frame-of mark e js l x =
+    frame-of : (end-mark : Bool) (e : ℕ) (js : List Pulls) (l : List Byte) → BitsPlan end-mark false 8 0 e js l → FramePlan end-mark e js l
+    frame-of end-mark e js l x =
         let h = x .after in
         let f : Frame = record { bits = x .bits; let-go = h .let-go; take = h .take; release = h .release } in
         record {
@@ -205,11 +205,11 @@ module _ (L : Limits) where
               h .bytes
               ∙ ap₂ (λ (v t : ℕ). record { value = v; «let_go» = t + h .let-go; take = t + h .take } ∷ h .others)
               (eight-bits (x .bits) (x .number)) (sym (x .ends));
-          after = subst⁻¹ (λ (t : ℕ). AfterHold L mark (t + h .release) (h .rest) (h .others)) (x .ends) (h .after);
+          after = subst⁻¹ (λ (t : ℕ). AfterHold L end-mark (t + h .release) (h .rest) (h .others)) (x .ends) (h .after);
         }
 
-    frame-plan : (mark : Bool) (e : ℕ) (js : List Pulls) (l : List Byte) → Bits L mark 8 0 false e js l → FramePlan mark e js l
-    frame-plan mark e js l h = frame-of mark e js l (bits-plan mark false 8 0 e js l h)
+    frame-plan : (end-mark : Bool) (e : ℕ) (js : List Pulls) (l : List Byte) → Bits L end-mark 8 0 false e js l → FramePlan end-mark e js l
+    frame-plan end-mark e js l h = frame-of end-mark e js l (bits-plan end-mark false 8 0 e js l h)
 
     sends-more : (now gap e : ℕ) (js js′ : List Pulls) (l : List Byte) → PlainRule L gap → now + gap ≡ e
         → js ≡ replicate gap nobody ++ js′ → FramePlan false e js′ l → Sends L now js l
