@@ -62,19 +62,6 @@ samples =
     ∷ stops (s1With 220 80 40 60 99) 36 1759 23
     ∷ []
 
--- S1's file is the one that document 01 prints.
-abbrev pub S1Printed : Type 0
-S1Printed = fileOf s1 ≡ s1File
-
--- Its steps mean the ticks that the crate transfer reads as S1.
-abbrev pub S1Ticks : Type 0
-S1Ticks = tickLines s1 ≡ ticks s1Spans
-
--- A header and nothing after it.
-abbrev pub headerOnly : (version steps offset total size : ℕ) → List ℕ
-headerOnly version steps offset total size =
-    headerBytes (record { version = version; steps = steps; offset = offset; total = total; length = size })
-
 -- Beyond these: the byte 0x41 as one that is not the last, cut in phase C. It was handed over, so that 22 has a count here.
 abbrev pub cutAfterByte : Sample
 cutAfterByte =
@@ -87,6 +74,11 @@ cutAfterByte =
 abbrev pub refuses : (file lent-bytes lent-ledger : List ℕ) (number step : ℕ) → Sample
 refuses file lent-bytes lent-ledger number step =
     sample file lent-bytes lent-ledger (record { number = number; tick = 0; step = step; count = 0 }) [] []
+
+-- A header and nothing after it.
+abbrev pub headerOnly : (version steps offset total size : ℕ) → List ℕ
+headerOnly version steps offset total size =
+    headerBytes (record { version = version; steps = steps; offset = offset; total = total; length = size })
 
 -- And every refusal. 1 to 8 fall before the room is looked at, so no place is lent.
 abbrev pub refusals : List Sample
@@ -115,3 +107,11 @@ all = samples ++ (cutAfterByte ∷ refusals)
 
 abbrev pub SamplesHold : Type 0
 SamplesHold = map judgedSample all ≡ map expectedOf all
+
+-- S1's file is the one that document 01 prints.
+abbrev pub S1Printed : Type 0
+S1Printed = fileOf s1 ≡ s1File
+
+-- Its steps mean the ticks that the crate transfer reads as S1.
+abbrev pub S1Ticks : Type 0
+S1Ticks = tickLines s1 ≡ ticks s1Spans
