@@ -7,8 +7,8 @@ use Rattle.second_judge.proofs.place.after.Tie as tie
 
 to-a-phase-or-verdict : tie.Need-place-of-requires-7
 to-a-phase-or-verdict c κs =
-    let (((((((_, stay), hold), hand-over), ready-for-data), carried), opened), open-from-here) = c .match .rest in
-    simp ne-eqb (simp ne-eqb at (c .before .pre .1))
+    let (((((((_, stay), _), hand-over), _), _), _), open-from-here) = c .match .rest in
+    simp (ne-eqb _ 11 stay, ne-eqb _ 12 hand-over, ne-eqb _ 13 open-from-here) at (c .before .pre .1)
 
 pub after-spec : {M : Type 1} → statement M
 after-spec =
