@@ -4,8 +4,8 @@ use native.Mathlib.Omega.{arith}
 use mathlib.Core.Bool.{false≢true}
 use mathlib.Core.Path.{refl, sym, ap, _∙_}
 use borrow.Author.Tests.{lt-ltb, le-ltb, ltb-true, ltb-false, eq-eqb}
-use Rattle.transfer.specs.{Offsets.below, Moves.isDecided, Moves.move}
-use Rattle.transfer.specs.Phases.{Move, Go, Hand, Stop, next, same}
+use Rattle.transfer.specs.Moves.{isDecided, move}
+use Rattle.transfer.specs.Phases.{below, Move, Go, Hand, Stop, next, same}
 use Rattle.transfer.specs.Types.{Limits, Lines, Phase, Start, FirstHold, Hold, ReadyToSend, ReadyForData, Acknowledgement, Acknowledged}
 use Rattle.transfer.specs.Types.{SetUp, Valid, Open, Carried, End, Decided}
 use Rattle.reader.specs.{States.follow, States.nextState, After.stateAfter, After.handedIn, After.handedOver}

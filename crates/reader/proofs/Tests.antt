@@ -3,8 +3,8 @@ use Rattle.answer.specs.Basics.{ℕ, zero, suc, _-_, _^_, _<_, Bool, true, fals
 use native.Mathlib.Omega.{arith}
 use mathlib.Core.Path.{refl, sym, ap, subst, _∙_}
 use borrow.Author.Tests.{eq-eqb, ne-eqb}
-use Rattle.transfer.specs.{Types.Lines, Types.Limits, Types.Phase, Offsets.below, Offsets.upTo, Phases.Move, Phases.same, Phases.afterBit}
-use Rattle.transfer.specs.{Moves.heldByte, Moves.decisionOf}
+use Rattle.transfer.specs.{Types.Lines, Types.Limits, Types.Phase, Moves.heldByte, Moves.decisionOf}
+use Rattle.transfer.specs.Phases.{below, upTo, Move, same, afterBit}
 use Rattle.reader.specs.States.{readIn}
 use Rattle.reader.specs.declared.state.State.{State}
 

@@ -1,6 +1,6 @@
 // How far a tick is from the first tick of a phase. Only ever compared, never subtracted: a phase keeps its first tick.
 ghost use Rattle.answer.specs.Basics.{_≡_};
-ghost use Rattle.transfer.specs.Offsets.{below, upTo};
+ghost use Rattle.transfer.specs.Phases.{below, upTo};
 
 // `now` is fewer than `limit` ticks after `since`.
 pub(crate) fn below(limit: u32, since: u32, now: u32) -> bool

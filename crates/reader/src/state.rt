@@ -1,6 +1,7 @@
 // The state of the reading, and one tick of it.
 ghost use Rattle.answer.specs.Basics.{_^_, _<_, _≡_, if_then_else_};
-ghost use Rattle.transfer.specs.{Offsets.below, Offsets.upTo, Moves.isDecided, Moves.heldByte, Moves.decisionOf, Phases.Go, Phases.Stop};
+ghost use Rattle.transfer.specs.Moves.{isDecided, heldByte, decisionOf};
+ghost use Rattle.transfer.specs.Phases.{below, upTo, Go, Stop};
 ghost use Rattle.reader.specs.States.{follow, handedOn, readIn, nextState, firstState, Countable};
 use crate::offset::below;
 use crate::offset::up_to;

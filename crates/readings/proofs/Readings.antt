@@ -1,7 +1,7 @@
 -- The readings hold, by one computation. Assumes nothing.
 use mathlib.Core.Path.{refl}
-use Rattle.transfer.specs.{Offsets.below, Offsets.upTo, Moves.move, Outcome.run}
-use Rattle.transfer.specs.Phases.{next, same, withBit, handover, afterBit}
+use Rattle.transfer.specs.{Moves.move, Outcome.run}
+use Rattle.transfer.specs.Phases.{below, upTo, next, same, withBit, handover, afterBit}
 use Rattle.readings.specs.Readings.{ReadingsHold}
 
 pub readings-hold : ReadingsHold

@@ -3,8 +3,8 @@ use mathlib.Core.Path.{refl}
 use Rattle.recording.specs.FileOf.{headerBytes, stepBytes, stepsBytes, fileOf}
 use Rattle.recording.specs.Form.{headerTest, stepTest, stepsForm, bodyForm, formOf}
 use Rattle.recording.specs.Ticks.{stepsFrom, stepsOf, totalTicks, ticks}
-use Rattle.transfer.specs.{Offsets.below, Offsets.upTo, Moves.move, Outcome.run}
-use Rattle.transfer.specs.Phases.{next, same, withBit, handover, afterBit}
+use Rattle.transfer.specs.{Moves.move, Outcome.run}
+use Rattle.transfer.specs.Phases.{below, upTo, next, same, withBit, handover, afterBit}
 use Rattle.judge.specs.Judged.{stepHolding, twoTicks, judgedInForm, judged}
 use Rattle.samples.specs.Samples.{SamplesHold, S1Printed, S1Ticks}
 

@@ -5,9 +5,9 @@ use native.Mathlib.Omega.{arith}
 use mathlib.Core.Logic.{inl, inr}
 use mathlib.Core.Path.{refl, ap, _∙_, subst⁻¹}
 use borrow.Author.Tests.{ltb-true, ltb-false, leb-true, leb-false}
-use Rattle.transfer.specs.{Offsets.below, Offsets.upTo, Rules.PlanRules, Demand3.Consistent}
+use Rattle.transfer.specs.{Rules.PlanRules, Demand3.Consistent}
+use Rattle.transfer.specs.Phases.{below, upTo, Move, Go, Stop, next, same, withBit, handover, afterBit}
 use Rattle.transfer.specs.Moves.{cutAt, Stage, Running, Ended, Fallen, stage, unlessFallen, move, decisionIn}
-use Rattle.transfer.specs.Phases.{Move, Go, Stop, next, same, withBit, handover, afterBit}
 use Rattle.transfer.specs.Outcome.{Outcome, decided, ended, give, onward, run}
 use Rattle.transfer.specs.Parties.{Pulls, nobody, held, clock, clockHeld, sets, offers, Plan, track, sendingBytes, planBytes}
 use Rattle.transfer.specs.Types.{Limits, Lines, Byte, Phase, Start, FirstHold, Hold, ReadyToSend, ReadyForData, Acknowledgement}

@@ -4,9 +4,9 @@ use Rattle.answer.specs.Basics.{ℕ, suc, _+_, _*_, _^_, _≤_, _<_, Bool, true
 use native.Mathlib.{Omega.arith, Nat.pow-suc}
 use mathlib.Core.Path.{refl, sym, subst}
 use borrow.Author.Needs.{needs}
-use Rattle.transfer.specs.{Types.Limits, Types.Lines, Limits.standardLimits, Offsets.below, Offsets.upTo, Moves.move, Outcome.run}
-use Rattle.transfer.specs.{Demand3.Explains, Demand3.CompleteWith, Spans.ticks, Spans.s1}
-use Rattle.transfer.specs.Phases.{next, same, withBit, handover, afterBit}
+use Rattle.transfer.specs.{Types.Limits, Types.Lines, Limits.standardLimits, Moves.move, Outcome.run, Demand3.Explains}
+use Rattle.transfer.specs.{Demand3.CompleteWith, Spans.ticks, Spans.s1}
+use Rattle.transfer.specs.Phases.{below, upTo, next, same, withBit, handover, afterBit}
 use Rattle.transfer.specs.Parties.{Bit, Frame, Sending, more, last, valueOf, sendingBytes, planBytes}
 use Rattle.transfer.specs.Rules.{BitRule, FrameRules, SendingRules, PlanRules}
 use Rattle.transfer.specs.Pair.{senderTrack, receiverTrack, gives, values}

@@ -5,8 +5,8 @@ use native.Mathlib.Omega.{arith}
 use mathlib.Core.List.{append-nil}
 use mathlib.Core.Path.{refl, sym, ap, _∙_, subst, subst⁻¹}
 use borrow.Author.Tests.{lt-ltb, le-ltb, le-leb, lt-leb}
-use Rattle.transfer.specs.{Offsets.below, Offsets.upTo, Moves.heldByte, Pair.SameOrLater, Demand3.Consistent}
-use Rattle.transfer.specs.Phases.{Move, Go, Hand, next, same, withBit, handover, afterBit}
+use Rattle.transfer.specs.{Moves.heldByte, Pair.SameOrLater, Demand3.Consistent}
+use Rattle.transfer.specs.Phases.{below, upTo, Move, Go, Hand, next, same, withBit, handover, afterBit}
 use Rattle.transfer.specs.Outcome.{Outcome, ended, give, onward, run}
 use Rattle.transfer.specs.Parties.{Pulls, pulls, nobody, held, clock, clockHeld, sets, offers, Bit, Frame, Sending, more, last, Plan}
 use Rattle.transfer.specs.Parties.{bitsTrack, frameTrack, sendingTrack, track, bitsTicks, byteOf, afterFrame, sendingBytes, planBytes}

@@ -6,8 +6,7 @@ use Rattle.answer.specs.Basics.{ℕ, zero, suc, _+_, _-_, _*_, _≤_, _<_, Bool
 use native.Mathlib.Omega.{arith}
 use mathlib.Core.Path.{refl}
 use borrow.Author.Tests.{ltb-false, leb-false}
-use Rattle.transfer.specs.Offsets.{below, upTo}
-use Rattle.transfer.specs.Phases.{Move, Go, Hand, Stop, next, same, handover, afterBit}
+use Rattle.transfer.specs.Phases.{below, upTo, Move, Go, Hand, Stop, next, same, handover, afterBit}
 use Rattle.transfer.specs.Moves.{Stage, Running, Ended, Fallen, stage, unlessFallen, move, heldByte}
 use Rattle.transfer.specs.Types.{Limits, Lines, Byte, Phase, Start, FirstHold, Hold, ReadyToSend, ReadyForData, Acknowledgement}
 use Rattle.transfer.specs.Types.{Acknowledged, SetUp, Valid, Open, Carried, End, Decided}

@@ -2,7 +2,6 @@
 pub mod Types
 pub mod Lines
 pub mod Limits
-pub mod Offsets
 pub mod Phases
 pub mod Moves
 pub mod Outcome

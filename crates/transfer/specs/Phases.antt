@@ -1,8 +1,7 @@
 -- "The judge's phases" of document 01: what a tick with ATN released does in each phase, row by row, in the paper's order.
 -- Lines stand as (CLK, DATA), true when pulled; `now` is the tick. A clause below is a row there; where a row has two
 -- answers by the time, the clause has an `if`. `L` holds the times.
-use Rattle.answer.specs.Basics.{ℕ, zero, suc, _+_, _/_, Bool, true, false, not, eqb, if_then_else_}
-use Rattle.transfer.specs.Offsets.{below, upTo}
+use Rattle.answer.specs.Basics.{ℕ, zero, suc, _+_, _/_, Bool, true, false, not, eqb, ltb, leb, if_then_else_}
 use Rattle.transfer.specs.Types.{Limits, Byte, Phase, Start, FirstHold, Hold, ReadyToSend, ReadyForData, Acknowledgement}
 use Rattle.transfer.specs.Types.{Acknowledged, SetUp, Valid, Open, Carried, End, Decided}
 use Rattle.answer.specs.Types.{Fault, EmptyStream, NoReceiver, BadStart, OutOfTurn, EndMarkNotAcknowledged, AcknowledgementShort}
@@ -14,6 +13,15 @@ pub data Move : Type 0 where
   Go : Phase → Move
   Hand : Byte → Phase → Move
   Stop : Fault → Move
+
+-- "Offsets count from a phase's first tick, the one that leads into it, which is offset 0."
+-- The offset of `now` from `since` is below n.
+unfoldable pub below : (n since now : ℕ) → Bool
+below n since now = ltb now (since + n)
+
+-- The offset of `now` from `since` is at most n.
+unfoldable pub upTo : (n since now : ℕ) → Bool
+upTo n since now = leb now (since + n)
 
 -- Both pulled or both released.
 unfoldable pub same : (a b : Bool) → Bool

@@ -5,7 +5,8 @@ use native.Mathlib.Omega.{arith}
 use lib.{ListN.length-take, ListN.length-drop, Seq.drop-drop, Seq.take-append-seam}
 use Rattle.recording.specs.Ticks.{stepsOf}
 use Rattle.recording.proofs.GoodFormLaws.{good-form}
-use Rattle.vcd.specs.{Dump.dump, Dumped.piece, Dumped.leavesPiece, Pieces.Piece, Pieces.PiecesLaw}
+use Rattle.vcd.specs.Dump.{dump}
+use Rattle.vcd.specs.Dumped.{piece, leavesPiece, Piece, PiecesLaw}
 use Rattle.vcd.proofs.DumpedLaws.{is-piece}
 
 -- What was taken, and what is left.

@@ -3,6 +3,5 @@ pub mod Text
 pub mod Wires
 pub mod Dump
 pub mod Dumped
-pub mod Pieces
 pub mod Samples
 pub mod Put

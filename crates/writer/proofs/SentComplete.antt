@@ -4,10 +4,9 @@ use Rattle.answer.specs.Basics.{ℕ, List, [], _∷_, _≡_}
 use mathlib.Core.Path.{refl}
 use borrow.Author.Needs.{needs}
 use Rattle.recording.specs.{GoodForm.Bytes, Ticks.ticks}
-use Rattle.transfer.specs.{Types.Limits, Types.Lines, Limits.standardLimits, Offsets.below, Offsets.upTo, Moves.move, Moves.brokenAt}
-use Rattle.transfer.specs.{Outcome.run, Outcome.outcome, Parties.planBytes, Pair.senderTrack, Pair.receiverTrack, Demand3.CompleteWith}
-use Rattle.transfer.specs.{Demand3.Explained}
-use Rattle.transfer.specs.Phases.{next, same, withBit, handover, afterBit}
+use Rattle.transfer.specs.{Types.Limits, Types.Lines, Limits.standardLimits, Moves.move, Moves.brokenAt, Outcome.run, Outcome.outcome}
+use Rattle.transfer.specs.{Parties.planBytes, Pair.senderTrack, Pair.receiverTrack, Demand3.CompleteWith, Demand3.Explained}
+use Rattle.transfer.specs.Phases.{below, upTo, next, same, withBit, handover, afterBit}
 use Rattle.answer.specs.Types.{EmptyStream}
 use Rattle.transfer.proofs.Demand3.{standard-demand3}
 use Rattle.judge.specs.Judged.{tickLines}

@@ -1,5 +1,5 @@
 -- `below` meets its contract. Assumes nothing.
-use Rattle.transfer.specs.Offsets.{below}
+use Rattle.transfer.specs.Phases.{below}
 use borrow.Author.Needs.{needs}
 use Rattle.reader.proofs.offset.below.Statement.{statement}
 use Rattle.reader.proofs.offset.below.Tie as tie

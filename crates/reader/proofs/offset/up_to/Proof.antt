@@ -1,5 +1,5 @@
 -- `up_to` meets its contract. Assumes nothing.
-use Rattle.transfer.specs.Offsets.{upTo}
+use Rattle.transfer.specs.Phases.{upTo}
 use borrow.Author.Needs.{needs}
 use Rattle.reader.proofs.offset.up_to.Statement.{statement}
 use Rattle.reader.proofs.offset.up_to.Tie as tie
