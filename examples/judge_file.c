@@ -23,46 +23,6 @@ enum { PASS = 0, NO_PASS = 1, NO_ANSWER = 2 };
 /* More than any recording has. A longer file is judged by its beginning, and the judge says the same of that as of the whole file. */
 enum { FILE_ROOM = 65536 };
 
-static const char *const names[] = {
-    [STATION_WRITTEN] = "written",
-    [STATION_SHORT_FILE] = "short-file",
-    [STATION_WRONG_VERSION] = "wrong-version",
-    [STATION_TOO_MANY_STEPS] = "too-many-steps",
-    [STATION_WRONG_OFFSET] = "wrong-offset",
-    [STATION_WRONG_LENGTH] = "wrong-length",
-    [STATION_ZERO_DURATION] = "zero-duration",
-    [STATION_STRAY_BITS] = "stray-bits",
-    [STATION_WRONG_TOTAL] = "wrong-total",
-    [STATION_SHORT_BUFFERS] = "short-buffers",
-    [STATION_TOO_MANY_BYTES] = "too-many-bytes",
-    [STATION_SHORT_DESTINATION] = "short-destination",
-    [STATION_COMPLETE] = "complete",
-    [STATION_EMPTY_STREAM] = "empty-stream",
-    [STATION_CUT] = "cut",
-    [STATION_ATTENTION] = "attention",
-    [STATION_NO_RECEIVER] = "no-receiver",
-    [STATION_BAD_START] = "bad-start",
-    [STATION_OUT_OF_TURN] = "out-of-turn",
-    [STATION_END_MARK_NOT_ACKNOWLEDGED] = "end-mark-not-acknowledged",
-    [STATION_ACKNOWLEDGEMENT_SHORT] = "acknowledgement-short",
-    [STATION_ACKNOWLEDGEMENT_LONG] = "acknowledgement-long",
-    [STATION_LATE_CLOCK] = "late-clock",
-    [STATION_SENDER_TIME_OUT] = "sender-time-out",
-    [STATION_VALID_TIME_SHORT] = "valid-time-short",
-    [STATION_DATA_MOVED] = "data-moved",
-    [STATION_CLOCK_STALL] = "clock-stall",
-    [STATION_RECEIVER_TIME_OUT] = "receiver-time-out",
-    [STATION_HURRIED] = "hurried",
-    [STATION_MOVED_AFTER_THE_END] = "moved-after-the-end",
-};
-
-static const char *name_of(uint32_t number) {
-    if (number >= sizeof names / sizeof names[0] || names[number] == NULL) {
-        return "no-such-number";
-    }
-    return names[number];
-}
-
 /* Prints a file's name with its control characters hidden, so that no name can print a line that reads as an answer. */
 static void print_file_name(FILE *out, const char *name) {
     for (; *name != '\0'; name++) {
@@ -72,8 +32,8 @@ static void print_file_name(FILE *out, const char *name) {
 }
 
 static void print_answer(struct station_answer answer, const uint8_t *bytes, const uint32_t *ledger, const char *name) {
-    printf("%" PRIu32 " %" PRIu32 " %" PRIu32 " %" PRIu32, answer.number, answer.tick, answer.step, answer.count);
-    printf(" %s ", name_of(answer.number));
+    struct station_word word = station_name(answer.number);
+    printf("%" PRIu32 " %" PRIu32 " %" PRIu32 " %" PRIu32 " %s ", answer.number, answer.tick, answer.step, answer.count, word.text);
     print_file_name(stdout, name);
     printf("\n");
     if (answer.count == 0) {

@@ -1,5 +1,5 @@
-/* The station's judge and writer, for programs in C and C++. `rt staticlib station` makes target/staticlib/libstation.a, which needs no
- * other library. It is for Linux on x86-64. What each number means, and the exact rules, are in README.md and document 01.
+/* The station's judge and writer, for programs in C and C++, in libstation.a, which needs no other library. It is for Linux on x86-64. The
+ * exact rules are in docs/RULES.md, installed as share/doc/station/RULES.md.
  *
  * ONLY THE NUMBER 20 IS A PASS. 0 is not: it is the writer's answer where it wrote. No other number is, small or large, and no count of
  * bytes makes one: a stream that broke off after 100 bytes has the count 100. Compare with STATION_COMPLETE and with nothing else.
@@ -9,6 +9,9 @@
 
 #include <stddef.h>
 #include <stdint.h>
+
+/* The version of the whole: header, library, commands and Rust crate. */
+#define STATION_VERSION "0.2.0"
 
 #ifdef __cplusplus
 extern "C" {
@@ -76,11 +79,14 @@ struct station_answer {
     uint32_t count;
 };
 
-/* Both functions:
+/* The stack that a call may need, in bytes. Measured were fewer than 200 for the judge and the writer, and 1,100 for a number's name. */
+#define STATION_STACK 2048
+
+/* All functions:
  * - may be called by many threads at once: they keep nothing between calls, allocate nothing, call nothing and print nothing. The memory
  *   lent to one call must not be lent to another, nor changed by anybody, while the call lasts; memory that is only read may be shared.
  * - must be lent as many places as the lengths say. A pointer whose length is 0 is not followed and may be null.
- * - take any bytes at all, and always return. */
+ * - take any bytes and any number at all, and always return. */
 
 /* Judges one data transfer.
  *
@@ -98,6 +104,8 @@ struct station_answer {
  *   recording's total ticks and its number of steps. bytes begins with the count bytes; ledger begins with two ticks for each: when the
  *   sender let go of DATA and when the receiver took it. All further places keep what they held.
  * - A refusal of the judge: tick and count are 0; step is the offending one for 6 and 7 and otherwise 0. No place of bytes or ledger changes.
+ *   The first that is due is given, in this order: 1, 2, 3, 4, 5; the steps first to last, 6 before 7 in each; 8; 9. A verdict is given only
+ *   where none is due.
  */
 struct station_answer station_judge(const uint8_t *recording, size_t recording_length, uint8_t *bytes, size_t bytes_length,
                                     uint32_t *ledger, size_t ledger_length);
@@ -113,9 +121,21 @@ struct station_answer station_judge(const uint8_t *recording, size_t recording_l
  * - STATION_WRITTEN, 0: tick and step are 0, and the count is the recording's length, STATION_WRITTEN_LENGTH(bytes_length). The
  *   destination begins with the recording; all further places keep what they held. The judge answers 20 with these very bytes of it, or
  *   21, which is no pass, where there were none.
- * - A refusal of the writer: tick, step and count are 0. No place of the destination changes.
+ * - A refusal of the writer, 10 before 11: tick, step and count are 0. No place of the destination changes.
  */
 struct station_answer station_write(const uint8_t *bytes, size_t bytes_length, uint8_t *destination, size_t destination_length);
+
+/* The word that the commands print for a number, ended by a zero; all places after it are zero too. */
+struct station_word {
+    char text[32];
+};
+
+/* The word of any number: "complete" for 20 alone, "no-such-number" for one that is none of station_number's. Keep it while its text is used:
+ *
+ *     struct station_word word = station_name(answer.number);
+ *     printf("%s\n", word.text);
+ */
+struct station_word station_name(uint32_t number);
 
 #ifdef __cplusplus
 }

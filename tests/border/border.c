@@ -1,11 +1,12 @@
 /* border: what only the border can break, tried from C: the answer's layout, lengths and pointers as they cross, and the memory around what
- * is lent, by one call for each kind of answer. Which number is due is left to the proofs and to the trials in rust/. Prints a line for each
- * trial that failed; its exit status is 0 only if none did. */
+ * is lent, by one call for each kind of answer, and the stack that a call takes. Which number is due is left to the proofs and to the trials in
+ * rust/. Prints a line for each trial that failed; its exit status is 0 only if none did. */
 #include <inttypes.h>
 #include <stdio.h>
 #include <string.h>
 
 #include "lent.h"
+#include "stack.h"
 #include "station.h"
 
 /* Three bytes; and, by document 01's durations, when DATA is let go and taken for each. */
@@ -43,6 +44,7 @@ static void try_layout(void) {
     holds("an answer", "tick second", offsetof(struct station_answer, tick) == 4);
     holds("an answer", "step third", offsetof(struct station_answer, step) == 8);
     holds("an answer", "count fourth", offsetof(struct station_answer, count) == 12);
+    holds("a word", "32 bytes", sizeof(struct station_word) == 32);
     holds("the longest recording", "its length", STATION_LONGEST_RECORDING == 16 + 4 * STATION_MOST_STEPS);
 }
 
@@ -117,6 +119,35 @@ static void try_long_file(const uint8_t *recording) {
     open_up(file);
 }
 
+/* The longest string, written and judged. */
+static uint8_t longest[STATION_LONGEST_RECORDING];
+static uint8_t longest_bytes[STATION_BYTE_ROOM];
+static uint32_t longest_ledger[STATION_LEDGER_ROOM];
+static struct station_answer kept;
+static struct station_word kept_word;
+
+static void call_nothing(void) {}
+
+static void call_write(void) {
+    kept = station_write(longest_bytes, STATION_MOST_BYTES, longest, sizeof longest);
+}
+
+static void call_judge(void) {
+    size_t length = STATION_WRITTEN_LENGTH(STATION_MOST_BYTES);
+    kept = station_judge(longest, length, longest_bytes, STATION_BYTE_ROOM, longest_ledger, STATION_LEDGER_ROOM);
+}
+
+static void call_name(void) {
+    kept_word = station_name(STATION_COMPLETE);
+}
+
+static void try_stack(void) {
+    size_t nothing = stack_of(call_nothing);
+    holds("the writer", "stack", stack_of(call_write) < nothing + STATION_STACK && kept.number == STATION_WRITTEN);
+    holds("the judge", "stack", stack_of(call_judge) < nothing + STATION_STACK && kept.number == STATION_COMPLETE);
+    holds("a name", "stack", stack_of(call_name) < nothing + STATION_STACK && strcmp(kept_word.text, "complete") == 0);
+}
+
 int main(void) {
     uint8_t recording[LENGTH];
     try_layout();
@@ -125,5 +156,6 @@ int main(void) {
     try_writer();
     try_null(recording);
     try_long_file(recording);
+    try_stack();
     return failed;
 }

@@ -1,3 +1,3 @@
--- Why it holds. The crates above cite Numbers.
+-- Why it holds. The crates above cite both.
 pub mod Numbers
-mod NameLaws
+pub mod NameLaws

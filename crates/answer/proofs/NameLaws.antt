@@ -1,13 +1,12 @@
 -- A table's rows are the words of their numbers; a row read up to its first space. Assumes nothing.
-use Rattle.answer.specs.Basics.{ℕ, zero, suc, _+_, _-_, _*_, _≤_, _<_, List, [], _∷_, _++_, length, take, drop, set, getD, _≡_}
-use native.Mathlib.{Omega.arith, Numerals.add-one}
+use Rattle.answer.specs.Basics.{ℕ, zero, suc, _+_, _-_, _*_, _≤_, _<_, List, [], _∷_, _++_, length, drop, replicate, set, getD, _≡_}
+use native.Mathlib.Omega.{arith}
 use borrow.Author.Tests.{eq-eqb, ne-eqb}
 use mathlib.Core.List.{append-assoc, append-nil}
 use mathlib.Core.Path.{refl, ap, sym, subst, _∙_}
-use lib.{ListN.length-set, Seq.drop-cons, Seq.take-suc-set}
-use Rattle.answer.specs.Text.{ascii, space}
-use Rattle.answer.specs.Names.{Word, _is_, words, wordAmong, wordOf, wordIn, wordAt, Spells}
-use Rattle.answer.specs.declared.names.Name.{Name}
+use lib.{ListN.length-append, ListN.length-replicate, Seq.drop-cons, Seq.set-at}
+use Rattle.answer.specs.{Types.Name, Text.ascii, Text.space}
+use Rattle.answer.specs.Names.{Word, _is_, words, wordAmong, wordOf, wordIn, wordAt, inRoom, Spells}
 
 -- What a function gives for so many numbers from one on.
 abbrev pub counted : {A : Type 0} (f : ℕ → A) (from count : ℕ) → List A
@@ -47,17 +46,25 @@ unfolding wordOf
 other-spells {name} number h s e =
     subst (λ (word : List ℕ). Spells word name) (e ∙ ap ascii (sym (no-word words number h))) s
 
--- The first n characters of the row at this place are copied, and none of them is a space.
+-- The first n characters of the row at this place, `begun`, are copied, and none of them is a space; zeros follow.
 pub record Read (rows : List ℕ) (from : ℕ) (characters : List ℕ) (n : ℕ) : Type 0 where
+  pub begun : List ℕ
+  pub counted : length begun ≡ n
   pub within : n ≤ 25
-  pub places : length characters ≡ 25
-  pub word : wordAt rows from ≡ take n characters ++ wordIn (25 - n) (drop (from + n) rows)
+  pub copied : characters ≡ begun ++ replicate (32 - n) 0
+  pub word : wordAt rows from ≡ begun ++ wordIn (25 - n) (drop (from + n) rows)
 
-pub read-none : (rows : List ℕ) (from : ℕ) (characters : List ℕ) → length characters ≡ 25 → Read rows from characters 0
+pub read-none : (rows : List ℕ) (from : ℕ) → Read rows from (replicate 32 0) 0
 unfolding wordAt
-read-none rows from characters long =
+read-none rows from =
     let here : from ≡ from + 0 = omega arith in
-    record { within = omega arith; places = long; word = ap (λ (k : ℕ). wordIn 25 (drop k rows)) here }
+    record {
+      begun = [];
+      counted = refl;
+      within = omega arith;
+      copied = refl;
+      word = ap (λ (k : ℕ). wordIn 25 (drop k rows)) here;
+    }
 
 goes-on : (most c : ℕ) (rest : List ℕ) → (c ≡ space → ⊥) → wordIn (suc most) (c ∷ rest) ≡ c ∷ wordIn most rest
 unfolding wordIn
@@ -71,6 +78,9 @@ module _ (rows : List ℕ) (from : ℕ) (characters : List ℕ) (n : ℕ) (read 
   one-more : n < 25 → 25 - n ≡ suc (25 - (n + 1))
   one-more more = omega arith
 
+  zeros-left : n < 25 → 32 - n ≡ suc (32 - (n + 1))
+  zeros-left more = omega arith
+
   pub read-next : n < 25 → from + 25 ≤ length rows → (getD rows (from + n) 0 ≡ space → ⊥)
       → Read rows from (set characters n (getD rows (from + n) 0)) (n + 1)
   read-next more fit other =
@@ -80,17 +90,29 @@ module _ (rows : List ℕ) (from : ℕ) (characters : List ℕ) (n : ℕ) (read 
       let step : wordIn (25 - n) (drop (from + n) rows) ≡ c ∷ rest =
       rw (one-more more, drop-cons rows (from + n) 0 (omega arith), next) (goes-on _ _ _ other) in
       record {
+        begun = read .begun ++ (c ∷ []);
+        counted = length-append (read .begun) (c ∷ []) ∙ ap (λ (k : ℕ). k + 1) (read .counted);
         within = omega arith;
-        places = length-set characters n c ∙ read .places;
+        copied =
+            ap (λ (l : List ℕ). set l n c)
+            (read .copied ∙ ap (λ (k : ℕ). read .begun ++ replicate k 0) (zeros-left more))
+            ∙ set-at (read .begun) 0 (replicate (32 - (n + 1)) 0) c n (read .counted)
+            ∙ sym (append-assoc (read .begun) (c ∷ []) (replicate (32 - (n + 1)) 0));
         word =
-            read .word ∙ ap (λ (l : List ℕ). take n characters ++ l) step
-            ∙ rw (add-one n, take-suc-set characters n c (omega arith), append-assoc);
+            read .word ∙ ap (λ (l : List ℕ). read .begun ++ l) step
+            ∙ sym (append-assoc (read .begun) (c ∷ []) rest);
       }
 
   read-end : wordIn (25 - n) (drop (from + n) rows) ≡ [] → Spells (wordAt rows from) (record { characters = characters; length = n })
+  unfolding inRoom
   read-end e =
-      let word = read .word ∙ ap (λ (l : List ℕ). take n characters ++ l) e ∙ append-nil (take n characters) in
-      record { fits = omega arith; spelt = sym word }
+      let word = read .word ∙ ap (λ (l : List ℕ). read .begun ++ l) e ∙ append-nil (read .begun) in
+      let long : length (wordAt rows from) ≡ n = ap length word ∙ read .counted in
+      record {
+        counted = sym long;
+        ended = omega (arith, long, read .within);
+        spelt = rw (long) (read .copied ∙ ap (λ (l : List ℕ). l ++ replicate (32 - n) 0) (sym word));
+      }
 
   pub read-space : n < 25 → from + 25 ≤ length rows → getD rows (from + n) 0 ≡ space
       → Spells (wordAt rows from) (record { characters = characters; length = n })
@@ -101,3 +123,11 @@ module _ (rows : List ℕ) (from : ℕ) (characters : List ℕ) (n : ℕ) (read 
   read-full full =
       let none : 25 - n ≡ 0 = omega arith in
       read-end (ap (λ (k : ℕ). wordIn k (drop (from + n) rows)) none)
+
+-- A name's word lies within its characters.
+pub fits : (word : List ℕ) (name : Name) → Spells word name → name .length ≤ length (name .characters)
+unfolding inRoom
+fits word name s =
+    let long : length (name .characters) ≡ length word + (32 - length word) =
+    ap length (s .spelt) ∙ length-append word (replicate (32 - length word) 0) ∙ ap (λ (k : ℕ). length word + k) (length-replicate _ _) in
+    omega (arith, long, s .counted)

@@ -1,8 +1,7 @@
 -- The word that the programs print for each of the numbers in Numbers.
-use Rattle.answer.specs.Basics.{ℕ, zero, suc, _≤_, List, [], _∷_, length, drop, _≡_, eqb, if_then_else_}
+use Rattle.answer.specs.Basics.{ℕ, zero, suc, _-_, _<_, List, [], _∷_, _++_, length, drop, replicate, _≡_, eqb, if_then_else_}
 use Prim.Native.String.{String}
-use Rattle.answer.specs.{Answers.first, Text.ascii, Text.space}
-use Rattle.answer.specs.declared.names.Name.{Name}
+use Rattle.answer.specs.{Types.Name, Text.ascii, Text.space}
 
 infix 70 _is_
 pub data Word : Type 0 where
@@ -50,10 +49,15 @@ wordAmong (n is word ∷ rest) number = if eqb number n then word else wordAmong
 unfoldable pub wordOf : (number : ℕ) → List ℕ
 wordOf number = ascii (wordAmong words number)
 
--- The characters of a name that count are the word's.
+-- A word in a room of 32 characters, with zeros after it.
+unfoldable pub inRoom : (word : List ℕ) → List ℕ
+inRoom word = word ++ replicate (32 - length word) 0
+
+-- The characters of a name are the word's, and then zeros, of which there is one at least.
 pub record Spells (word : List ℕ) (name : Name) : Type 0 where
-  pub fits : name .length ≤ length (name .characters)
-  pub spelt : first (name .length) (name .characters) ≡ word
+  pub counted : name .length ≡ length word
+  pub ended : length word < 32
+  pub spelt : name .characters ≡ inRoom word
 
 -- The characters before the first space, at most so many.
 unfoldable pub wordIn : (most : ℕ) (characters : List ℕ) → List ℕ

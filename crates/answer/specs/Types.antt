@@ -1,6 +1,6 @@
 -- The declared types of the crate and the cases of each, in one place for whoever names them.
 use Rattle.answer.specs.declared
-pub use declared.{Answer.Answer, refusal.Refusal.Refusal, verdict.Fault.Fault, verdict.Verdict.Verdict}
+pub use declared.{Answer.Answer, names.Name.Name, refusal.Refusal.Refusal, verdict.Fault.Fault, verdict.Verdict.Verdict}
 pub use declared.refusal.Refusal.the-variants.{ShortFile, WrongVersion, TooManySteps, WrongOffset, WrongLength, ZeroDuration, StrayBits}
 pub use declared.refusal.Refusal.the-variants.{WrongTotal, ShortBuffers, TooManyBytes, ShortDestination}
 pub use declared.verdict.Verdict.the-variants.{Complete, Cut, Broken}

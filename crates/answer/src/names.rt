@@ -2,11 +2,14 @@
 ghost use Rattle.answer.specs.Basics.{_+_, _≤_, length};
 ghost use Rattle.answer.specs.Names.{wordAt, wordOf, Spells};
 
-// The first `length` characters are the word.
+// The first `length` characters are the word; after it come zeros, one at least, so that it is a text of C as it stands.
 pub struct Name {
-    pub characters: [u8; WIDTH],
+    pub characters: [u8; ROOM],
     pub length: usize,
 }
+
+// A longer word than today's has room: what crosses to C stays as it is.
+const ROOM: usize = 32;
 
 // A row's length: the longest word has no space after it.
 const WIDTH: usize = 25;
@@ -57,8 +60,8 @@ const WORDS: [u8; ROWS * WIDTH] = *b"\
 
 const NO_SUCH_NUMBER: [u8; WIDTH] = *b"no-such-number           ";
 
-// The word that the programs print for this number.
-pub fn name_of(number: u8) -> Name
+// The word that the programs print for this number. No number but 20 has a pass's.
+pub fn name_of(number: u32) -> Name
     ensures { λ r. ⌜ Spells (wordOf number) r ⌝ }
 {
     let row = number as usize;
@@ -73,7 +76,7 @@ fn name_at(words: &[u8], from: usize) -> Name
     requires { ⌜ from + 25 ≤ length (now words) ⌝ }
     ensures { λ r. ⌜ Spells (wordAt (now (words .entry)) from) r ⌝ }
 {
-    let mut characters: [u8; WIDTH] = [0; WIDTH];
+    let mut characters: [u8; ROOM] = [0; ROOM];
     let mut length: usize = 0;
     while length < WIDTH {
         let character = words[from + length];

@@ -137,7 +137,7 @@ fn print_numbers(tally: Tally, numbers: &[u8]) -> u32 {
 fn print_count(number: u8, count: u32) -> u32 {
     io::print_decimal(STDOUT_FILENO, number as u64);
     print(b" ");
-    files::print_name(STDOUT_FILENO, number);
+    files::print_name(STDOUT_FILENO, number as u32);
     print_line(b"", &[count]);
     if count == 0 {
         return 1;

@@ -7,7 +7,7 @@ pub fn print_answer(descriptor: i32, answer: Answer, file: &[u8]) -> bool {
         && print_number(descriptor, answer.tick)
         && print_number(descriptor, answer.step)
         && print_number(descriptor, answer.count)
-        && print_name(descriptor, answer.number)
+        && print_name(descriptor, answer.number as u32)
         && io::write_all(descriptor, b" ")
         && io::write_all(descriptor, file)
         && io::write_all(descriptor, b"\n")
@@ -18,7 +18,7 @@ fn print_number(descriptor: i32, number: u32) -> bool {
 }
 
 // Prints the name of the number, and answers whether it was written.
-pub fn print_name(descriptor: i32, number: u8) -> bool {
+pub fn print_name(descriptor: i32, number: u32) -> bool {
     let name = answer::name_of(number);
     let characters = name.characters;
     let length = name.length;

@@ -1,11 +1,12 @@
 // The station's entries for programs in C and Rust. Each hands the lent memory on and the answer back, and does nothing else.
 ghost use Rattle.answer.specs.Basics.{_≡_};
+ghost use Rattle.answer.specs.Names.{wordOf, Spells};
 ghost use Rattle.transfer.specs.Limits.{standardLimits};
 ghost use Rattle.judge.specs.Judged as Judged;
 ghost use Rattle.judge.specs.Promise.{JudgePromise};
 ghost use Rattle.writer.specs.{Card.standardCard, Promise.WritePromise};
 ghost use Rattle.writer.specs.Written as Written;
-ghost use Rattle.station.specs.Border.{answerOf};
+ghost use Rattle.station.specs.Border.{answerOf, nameOf};
 use answer::Answer;
 
 // An answer as it crosses the border: four numbers of 32 bits, in this order.
@@ -45,4 +46,20 @@ pub extern "C" fn station_write(bytes: &[u8], destination: &mut [u8]) -> Station
         (Written.leaves (answerOf r) (now (destination .exit))) ⌝ }
 {
     cross(writer::write(bytes, destination))
+}
+
+// A number's word as it crosses: its characters and then zeros, one at least.
+#[repr(C)]
+pub struct StationWord {
+    pub text: [u8; 32],
+}
+
+// The word that the programs print for this number.
+#[no_mangle]
+pub extern "C" fn station_name(number: u32) -> StationWord
+    ensures { λ r. ⌜ Spells (wordOf number) (nameOf (wordOf number) r) ⌝ }
+{
+    let name = answer::name_of(number);
+    let text = name.characters;
+    StationWord { text }
 }

@@ -1,7 +1,7 @@
 //! The station's judge and writer, proved in Rattle, for programs in Rust.
 //!
-//! A recording of the bus lines goes in as bytes, and an [`Answer`] comes out: number, tick, step and count, as document
-//! 01 of the station ("What is required and the exact rules") says. **Only number 20, [`Number::Complete`], is a pass.**
+//! A recording of the bus lines goes in as bytes, and an [`Answer`] comes out: number, tick, step and count, by the rules in
+//! docs/RULES.md. **Only number 20, [`Number::Complete`], is a pass.**
 //! An empty stream is a time-out, a cut recording proves nothing, a refusal says that the file was not judged at all; a
 //! caller passes a drive on [`Answer::is_complete`] and on nothing else.
 //!

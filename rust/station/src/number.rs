@@ -50,7 +50,7 @@ macro_rules! numbers {
 }
 
 numbers! {
-    /// What was found: document 01's numbers, "Numbers and what they leave".
+    /// What was found: the numbers of docs/RULES.md, "The answers".
     ///
     /// Only [`Complete`](Number::Complete) is a pass.
     enum Number;
@@ -123,7 +123,7 @@ numbers! {
 }
 
 impl Number {
-    /// The number itself, as document 01 has it.
+    /// The number itself.
     #[must_use]
     pub const fn as_u32(self) -> u32 {
         self as u32
@@ -141,7 +141,7 @@ impl fmt::Display for Number {
 mod tests {
     use super::*;
 
-    /// The rows of README's table of numbers. Those that are no verdicts begin with a word on refusing.
+    /// The rows of the table of answers in docs/RULES.md. Those that are no verdicts begin with a word on refusing.
     fn rows() -> Vec<(u32, String, bool)> {
         let row = |line: &str| {
             let mut cells = line.split('|').map(|cell| cell.trim().trim_matches('*'));
@@ -150,7 +150,7 @@ mod tests {
             let verdict = !says.starts_with("refused") && !says.starts_with("no refusal");
             Some((value, name, verdict))
         };
-        let mut rows: Vec<_> = include_str!("../../../README.md")
+        let mut rows: Vec<_> = include_str!("../../../docs/RULES.md")
             .lines()
             .filter_map(row)
             .collect();
@@ -159,7 +159,7 @@ mod tests {
     }
 
     #[test]
-    fn the_numbers_are_those_of_the_readme() {
+    fn the_numbers_are_those_of_the_rules() {
         let told = |number: &Number| (number.as_u32(), number.to_string(), number.is_verdict());
         let mut all: Vec<_> = Number::ALL.iter().map(told).collect();
         all.sort();

@@ -1,7 +1,6 @@
 -- `name_at` meets its contract. Assumes nothing.
 use borrow.Author.Needs.{needs}
 use Rattle.answer.specs.Basics.{_-_}
-use mathlib.Core.Path.{refl}
 use Rattle.answer.proofs.names.name_at.Statement.{statement}
 use Rattle.answer.proofs.NameLaws.{Read, read-none, read-next, read-space, read-full}
 use Rattle.answer.proofs.names.name_at.Tie as tie
@@ -30,5 +29,5 @@ returns-2 c =
 pub name-at-spec : {M : Type 1} → statement M
 name-at-spec =
     tie.close
-    (tie.spec Inv-loop μ-loop (λ c. read-none _ _ _ refl) (λ c. search needs) (λ c. search needs) (λ c. search needs)
+    (tie.spec Inv-loop μ-loop (λ c. read-none _ _) (λ c. search needs) (λ c. search needs) (λ c. search needs)
     (λ c. search needs) (λ c. search needs) loop-again returns returns-2)
