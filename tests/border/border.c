@@ -9,7 +9,7 @@
 #include "stack.h"
 #include "station.h"
 
-/* Three bytes; and, by document 01's durations, when DATA is let go and taken for each. */
+/* Three bytes; and, by the writer's durations, when DATA is let go and taken for each. */
 enum { COUNT = 3, LENGTH = 80 * COUNT + 36, STEPS = 20 * COUNT + 5 };
 static const uint8_t string[COUNT] = {0x41, 0x00, 0xFF};
 static const uint32_t ledger_due[2 * COUNT] = {1350, 1380, 2730, 2760, 4390, 4420};
