@@ -56,3 +56,11 @@ pub use answer::Answer;
 pub use entries::{judge, write};
 pub use number::Number;
 pub use room::{written_length, BYTE_ROOM, LEDGER_ROOM, MOST_BYTES};
+
+/// The version of this crate, which is that of the whole repository.
+pub const VERSION: &str = env!("CARGO_PKG_VERSION");
+
+#[test]
+fn the_version_is_the_repository_s() {
+    assert_eq!(format!("{VERSION}\n"), include_str!("../../../VERSION"));
+}
