@@ -132,7 +132,7 @@ mod tests {
     }
 
     #[test]
-    fn only_20_passes_and_a_number_that_is_not_the_judge_s_stops_the_program() {
+    fn only_20_passes_and_a_number_of_another_entry_stops_the_program() {
         for number in 0..300 {
             let required = required(crossed(number, 0, 0));
             assert_eq!(required == Some(Ok(())), number == 20, "{number}");

@@ -30,8 +30,8 @@
 //! # }
 //! ```
 //!
-//! [`Judge`] and [`write_to_vec`] own their memory and stand behind the feature `std`, which is on if nothing else is said.
-//! Without it the crate needs `core` alone: [`judge`](fn@judge) and [`write`](fn@write) take no memory and are lent what they fill.
+//! `Judge` and `write_to_vec` own their memory and stand behind the feature `std`, which is on if nothing else is said.
+//! Without it the crate needs `core` alone: [`judge()`] and [`write()`] are lent what they fill, and take no memory.
 //!
 //! # What is proved, and what is not
 //!

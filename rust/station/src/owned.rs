@@ -40,7 +40,7 @@ impl Judge {
         }
     }
 
-    /// Judges one data transfer, as [`judge`] does. `Ok` is a pass, and nothing else is.
+    /// Judges one data transfer, as [`judge()`] does. `Ok` is a pass, and nothing else is.
     ///
     /// # Errors
     ///
@@ -48,7 +48,7 @@ impl Judge {
     ///
     /// # Panics
     ///
-    /// As [`judge`] does.
+    /// As [`judge()`] does.
     pub fn judge(&mut self, recording: &[u8]) -> Result<Transfer<'_>, JudgeError> {
         let judged = judge(recording, &mut self.bytes, &mut self.ledger);
         self.before_fault = match judged {
@@ -71,7 +71,7 @@ impl Default for Judge {
     }
 }
 
-/// The sample recording of `bytes`, as [`write`] writes it.
+/// The sample recording of `bytes`, as [`write()`] writes it.
 ///
 /// ```
 /// use station::{write_to_vec, Judge};
@@ -87,8 +87,9 @@ impl Default for Judge {
 ///
 /// # Panics
 ///
-/// As [`write`] does.
+/// As [`write()`] does.
 pub fn write_to_vec(bytes: &[u8]) -> Result<Vec<u8>, WriteRefusal> {
+    // A longer string is refused, whatever the room.
     let mut recording = vec![0; written_length(bytes.len().min(MOST_BYTES))];
     write(bytes, &mut recording)?;
     Ok(recording)

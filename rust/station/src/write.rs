@@ -102,7 +102,7 @@ mod tests {
     }
 
     #[test]
-    fn a_number_that_is_not_the_writer_s_stops_the_program() {
+    fn a_number_of_another_entry_stops_the_program() {
         for number in 0..300 {
             let known = number == WRITTEN || WriteRefusal::try_from(number).is_ok();
             assert_eq!(answered(number, 0, 0, 0).is_some(), known, "{number}");

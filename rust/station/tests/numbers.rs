@@ -75,7 +75,7 @@ fn a_number_is_found_by_its_value_and_its_name() {
 }
 
 #[test]
-fn the_version_is_the_repository_s() {
+fn the_version_is_that_of_the_repository() {
     let version = format!("{}\n", station::VERSION);
     assert_eq!(version, include_str!("../../../VERSION"));
 }
