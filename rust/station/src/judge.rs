@@ -63,27 +63,22 @@ pub fn judge<'lent>(
     })
 }
 
-/// Whether what crossed is a pass. A refusal's tick and count, which an error has no place for, are 0.
+/// Whether what crossed is a pass. A refusal's tick and count, which an error has no place for, must be 0.
 fn require_pass(crossed: StationAnswer) -> Result<(), JudgeError> {
-    let StationAnswer {
-        number,
-        tick,
-        step,
-        count,
-    } = crossed;
+    let (number, step) = (crossed.number, crossed.step);
     if number == COMPLETE {
         return Ok(());
     }
-    if let Ok(fault) = Fault::try_from(number) {
-        return Err(JudgeError::Fault {
+    match (Fault::try_from(number), Refusal::try_from(number)) {
+        (Ok(fault), _) => Err(JudgeError::Fault {
             fault,
-            tick,
+            tick: crossed.tick,
             step,
-            count,
-        });
-    }
-    match (Refusal::try_from(number), tick, count) {
-        (Ok(refusal), 0, 0) => Err(JudgeError::Refusal { refusal, step }),
+            count: crossed.count,
+        }),
+        (_, Ok(refusal)) if (crossed.tick, crossed.count) == (0, 0) => {
+            Err(JudgeError::Refusal { refusal, step })
+        }
         _ => crossed.stop("judge"),
     }
 }

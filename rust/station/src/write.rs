@@ -52,17 +52,12 @@ pub fn write<'lent>(
     })
 }
 
-/// The length of what was written. Whatever else crosses has no place in the answer, and is 0.
+/// The length of what was written. Whatever else crosses, which has no place in the answer, must be 0.
 fn written(crossed: StationAnswer) -> Result<usize, WriteRefusal> {
-    let StationAnswer {
-        number,
-        tick,
-        step,
-        count,
-    } = crossed;
-    match (number, WriteRefusal::try_from(number), tick, step, count) {
-        (WRITTEN, _, 0, 0, length) => Ok(length as usize),
-        (_, Ok(refusal), 0, 0, 0) => Err(refusal),
+    let (number, rest) = (crossed.number, (crossed.tick, crossed.step, crossed.count));
+    match (number, WriteRefusal::try_from(number), rest) {
+        (WRITTEN, _, (0, 0, length)) => Ok(length as usize),
+        (_, Ok(refusal), (0, 0, 0)) => Err(refusal),
         _ => crossed.stop("writer"),
     }
 }

@@ -3,20 +3,7 @@
 use station::{Fault, JudgeError, Refusal};
 
 /// Words that a reader, or a search, could take for a pass.
-const PASS: [&str; 12] = [
-    "complete",
-    "completed",
-    "correct",
-    "done",
-    "good",
-    "ok",
-    "okay",
-    "pass",
-    "passed",
-    "right",
-    "success",
-    "written",
-];
+const PASS: &str = "complete completed correct done good ok okay pass passed right success written";
 
 /// The sentence has each of these, begins with its kind, and has no word of a pass.
 fn says(error: JudgeError, kind: &str, parts: &[&str]) {
@@ -28,7 +15,7 @@ fn says(error: JudgeError, kind: &str, parts: &[&str]) {
     assert!(sentence.starts_with(&begins), "{sentence}");
     let lower = sentence.to_lowercase();
     for word in lower.split(|letter: char| !letter.is_alphabetic()) {
-        assert!(!PASS.contains(&word), "{sentence}: {word}");
+        assert!(PASS.split(' ').all(|pass| pass != word), "{sentence}");
     }
 }
 
