@@ -13,7 +13,7 @@ pub struct Judge {
 pub const JUDGES: [Judge; 3] = [
     Judge {
         name: "the Rattle judge, through `station`",
-        judge: proved,
+        judge: trials::judge,
     },
     Judge {
         name: "`by_ticks`, plain Rust",
@@ -24,16 +24,6 @@ pub const JUDGES: [Judge; 3] = [
         judge: by_steps::judge,
     },
 ];
-
-fn proved(file: &[u8], bytes: &mut [u8], ledger: &mut [u32]) -> Answer {
-    let answer = station::judge(file, bytes, ledger);
-    Answer {
-        number: answer.number.as_u32(),
-        tick: answer.tick,
-        step: answer.step,
-        count: answer.count,
-    }
-}
 
 /// The buffers of one judge.
 #[derive(PartialEq)]

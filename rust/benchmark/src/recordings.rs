@@ -1,7 +1,7 @@
 //! What is judged: recordings that all judges read to their end.
 
 use parties::{file_of, steps_of, ticks_of, Card, Step, LONGEST, MOST_STEPS};
-use station::{written_length, Number, MOST_BYTES};
+use station::{write_to_vec, Fault, COMPLETE, MOST_BYTES};
 
 /// CLK and DATA, both pulled.
 pub const BOTH: u8 = 6;
@@ -17,7 +17,7 @@ pub struct Recording {
     pub name: &'static str,
     pub file: Vec<u8>,
     /// What it must be answered with.
-    pub number: Number,
+    pub number: u32,
     pub rounds: usize,
     /// How often it is judged in a round; where it is not said, as often as fills a moment.
     pub passes: Option<u32>,
@@ -43,7 +43,7 @@ pub fn all() -> Result<Vec<Recording>, String> {
     Ok(vec![
         recording("799 bytes, written", written(&string)?),
         Recording {
-            number: Number::Cut,
+            number: Fault::Cut.number(),
             rounds: 3,
             ..recording("longest steps, all (1,1)", file_of(&longest))
         },
@@ -62,7 +62,7 @@ fn recording(name: &'static str, file: Vec<u8>) -> Recording {
     Recording {
         name,
         file,
-        number: Number::Complete,
+        number: COMPLETE,
         rounds: 11,
         passes: None,
     }
@@ -87,12 +87,6 @@ fn one_tick_each(steps: &[Step]) -> Vec<Step> {
 
 /// What the station's writer puts down.
 fn written(bytes: &[u8]) -> Result<Vec<u8>, String> {
-    let mut file = vec![0; written_length(bytes.len())];
-    match station::write(bytes, &mut file).number {
-        Number::Written => Ok(file),
-        other => Err(format!(
-            "{} bytes could not be written: {other}",
-            bytes.len()
-        )),
-    }
+    write_to_vec(bytes)
+        .map_err(|refusal| format!("{} bytes could not be written: {refusal}", bytes.len()))
 }

@@ -6,7 +6,7 @@ use by_steps::Answer;
 
 pub fn require_same_answers(recording: &Recording) -> Result<(), String> {
     let (first, first_lent) = answer(&JUDGES[0], recording);
-    if first.number != recording.number.as_u32() {
+    if first.number != recording.number {
         return Err(format!(
             "{}: {} answered {first:?}, not {}",
             recording.name, JUDGES[0].name, recording.number

@@ -1,4 +1,4 @@
-//! A judge and a writer of recorded data transfers, after document 01.
+//! A judge and a writer of recorded data transfers, after document 01, the user's paper.
 //!
 //! The judge goes by steps and durations: what it does is bounded by the number
 //! of steps, however many ticks they last. It rests on one fact about "The

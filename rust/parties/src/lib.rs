@@ -1,4 +1,5 @@
-//! The sender's and the receiver's own rules, written from document 01, "The two parties' own rules", alone.
+//! The sender's and the receiver's own rules, written from the user's paper, document 01,
+//! "The two parties' own rules", alone.
 //!
 //! Nothing here judges: there is no phase and no state. A *pair* is three tracks of pulls, and each rule is a statement
 //! about where a pull begins or ends. Two uses:

@@ -1,40 +1,37 @@
 //! The station's judge and writer, proved in Rattle, for programs in Rust.
 //!
-//! A recording of the bus lines goes in as bytes, and an [`Answer`] comes out: number, tick, step and count, by the rules in
-//! docs/RULES.md. **Only number 20, [`Number::Complete`], is a pass.**
-//! An empty stream is a time-out, a cut recording proves nothing, a refusal says that the file was not judged at all; a
-//! caller passes a drive on [`Answer::is_complete`] and on nothing else.
+//! A recording of the bus lines goes in as bytes. If its stream was finished, and a sender and a receiver that keep the
+//! rules could have made it, a [`Transfer`] comes out; anything else is a [`JudgeError`]. **`Ok` is the only pass**, the
+//! station's number 20. An empty stream is a time-out, a cut recording proves nothing, a refusal says that the file was not
+//! judged at all: each is an error, also where bytes were handed over before. What the numbers mean, and the exact rules,
+//! stand in `docs/RULES.md` of the repository.
 //!
 //! ```
-//! use station::{judge, write, written_length, Number, BYTE_ROOM, LEDGER_ROOM};
+//! # #[cfg(feature = "std")] {
+//! use station::{write_to_vec, Judge};
 //!
-//! // Write the sample recording of a string.
-//! let string = b"HELLO";
-//! let mut recording = vec![0; written_length(string.len())];
-//! let written = write(string, &mut recording);
-//! assert_eq!(written.number, Number::Written);
-//! assert_eq!(written.count as usize, recording.len());
-//!
-//! // Judge it: the buffers are lent, and no memory is taken anywhere.
-//! let mut bytes = [0; BYTE_ROOM];
-//! let mut ledger = [0; LEDGER_ROOM];
-//! let answer = judge(&recording, &mut bytes, &mut ledger);
-//! if !answer.is_complete() {
-//!     // Every other answer fails the drive, also those that have bytes in their buffer.
-//!     eprintln!("fail: {} at tick {}", answer.number, answer.tick);
-//!     std::process::exit(1);
+//! let mut judge = Judge::new();
+//! let recording = write_to_vec(b"HELLO").expect("a string this short can be written");
+//! match judge.judge(&recording) {
+//!     Ok(transfer) => {
+//!         println!("pass: {}", String::from_utf8_lossy(transfer.bytes()));
+//!         assert_eq!(transfer.bytes(), b"HELLO");
+//!     }
+//!     Err(error) => {
+//!         eprintln!("fail: {error}");
+//!         std::process::exit(1);
+//!     }
 //! }
-//! let handed_over = &bytes[..answer.count as usize];
-//! println!("pass: {}", String::from_utf8_lossy(handed_over));
-//! assert_eq!(handed_over, string);
 //!
 //! // The recording of no bytes ends with a time-out. Nothing was wrong with it, and still it is not a pass.
-//! let mut silence = vec![0; written_length(0)];
-//! assert_eq!(write(b"", &mut silence).number, Number::Written);
-//! let answer = judge(&silence, &mut bytes, &mut ledger);
-//! assert_eq!(answer.number, Number::EmptyStream);
-//! assert!(!answer.is_complete());
+//! let silence = write_to_vec(b"").expect("no bytes can be written");
+//! let error = judge.judge(&silence).unwrap_err();
+//! assert_eq!((error.number(), error.name()), (21, "empty-stream"));
+//! # }
 //! ```
+//!
+//! `Judge` and `write_to_vec` own their memory and stand behind the feature `std`, which is on if nothing else is said.
+//! Without it the crate needs `core` alone: [`judge()`] and [`write()`] are lent what they fill, and take no memory.
 //!
 //! # What is proved, and what is not
 //!
@@ -43,16 +40,37 @@
 //! one small module, the only one with `unsafe` code, and it is tried on a million recordings against another judge
 //! (`cargo run --release -p trials --bin differential`).
 
+#![no_std]
 #![deny(missing_docs)]
 #![deny(unsafe_code)]
 
-mod answer;
-mod border;
-mod entries;
-mod number;
-mod room;
+#[cfg(any(feature = "std", test))]
+extern crate std;
 
-pub use answer::Answer;
-pub use entries::{judge, write};
-pub use number::Number;
-pub use room::{written_length, BYTE_ROOM, LEDGER_ROOM, MOST_BYTES};
+mod border;
+mod handovers;
+mod judge;
+mod judge_error;
+mod number;
+mod numbers;
+#[cfg(feature = "std")]
+mod owned;
+mod room;
+mod stop;
+mod transfer;
+mod unknown_number;
+mod write;
+
+pub use handovers::{Handover, Handovers};
+pub use judge::judge;
+pub use judge_error::JudgeError;
+pub use numbers::{Fault, Refusal, WriteRefusal, COMPLETE, WRITTEN};
+#[cfg(feature = "std")]
+pub use owned::{write_to_vec, Judge};
+pub use room::{written_length, BYTE_ROOM, LEDGER_ROOM, LONGEST_RECORDING, MOST_BYTES};
+pub use transfer::Transfer;
+pub use unknown_number::UnknownNumber;
+pub use write::{write, Written};
+
+/// The version of this crate, which is that of the whole repository.
+pub const VERSION: &str = env!("CARGO_PKG_VERSION");

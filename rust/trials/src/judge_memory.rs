@@ -2,8 +2,8 @@
 
 use crate::lent::{Lent, Pattern, Place};
 use crate::outcome::same;
+use by_steps::Answer;
 use parties::Random;
-use station::Answer;
 
 /// The byte buffers that are lent: none, one below, at and one above the room, and large.
 const BYTE_ROOMS: [usize; 5] = [0, 999, 1000, 1001, 1700];

@@ -4,8 +4,10 @@ use crate::case::{Case, Expected};
 use crate::judge_memory::{JudgeMemory, Places};
 use crate::outcome::{same, same_answer, Outcome};
 use crate::place::check_place;
+use by_steps::Answer;
 use parties::{check_shown_pair, Random};
-use station::{Answer, Number};
+use station::{Fault, Refusal, COMPLETE};
+use trials::name_of;
 
 /// The trial; its memory is used again for each case.
 pub struct JudgeTrial {
@@ -27,7 +29,7 @@ impl JudgeTrial {
     pub fn run(&mut self, random: &mut Random, case: &Case) -> Outcome {
         let memory = &mut self.memory;
         let places = memory.lend(random, &case.file);
-        let answer = station::judge(
+        let answer = trials::judge(
             memory.recording.part(places.recording),
             memory.bytes.part_mut(places.bytes),
             memory.ledger.part_mut(places.ledger),
@@ -37,7 +39,7 @@ impl JudgeTrial {
             memory.other_bytes.part_mut(places.bytes),
             memory.other_ledger.part_mut(places.ledger),
         );
-        let wrong = same_answer(answer, &other)
+        let wrong = same_answer(answer, other)
             .and_then(|()| self.memory.check(answer.count as usize, places, &case.file))
             .and_then(|()| check_place(answer, &case.file))
             .and_then(|()| self.check_shown(answer, places, case))
@@ -51,7 +53,7 @@ impl JudgeTrial {
 
     /// Demand 3 on every recording judged complete.
     fn check_shown(&mut self, answer: Answer, places: Places, case: &Case) -> Result<(), String> {
-        if !answer.is_complete() {
+        if answer.number != COMPLETE {
             return Ok(());
         }
         self.shown_pairs += 1;
@@ -64,14 +66,14 @@ impl JudgeTrial {
     fn check_expected(&self, answer: Answer, places: Places, case: &Case) -> Result<(), String> {
         let number = match case.expected {
             Expected::Nothing => return Ok(()),
-            _ if !places.enough => Number::ShortBuffers,
-            Expected::Empty => Number::EmptyStream,
-            Expected::Complete | Expected::CompleteByTicks => Number::Complete,
+            _ if !places.enough => Refusal::ShortBuffers.number(),
+            Expected::Empty => Fault::EmptyStream.number(),
+            Expected::Complete | Expected::CompleteByTicks => COMPLETE,
         };
         if answer.number != number {
-            return Err(format!("it must be {number}"));
+            return Err(format!("it must be {}", name_of(number)));
         }
-        if number != Number::Complete {
+        if number != COMPLETE {
             return Ok(());
         }
         let (string, ledger) = self.memory.left(answer, places);

@@ -1,5 +1,5 @@
 //! `differential [COUNT] [SEED]`, the trial of the border: the station's proved judge and writer, called as a program of the
-//! station calls them, against `by_steps`, another judge and writer made from document 01 alone, and against the parties'
+//! station calls them, against `by_steps`, another judge and writer made from the user's paper alone, and against the parties'
 //! own rules.
 //!
 //! A *case* is one recording to judge or one string to write, drawn by a *class* from a seed of its own.

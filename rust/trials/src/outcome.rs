@@ -1,27 +1,20 @@
 //! What a case came to.
 
-use station::Answer;
+use by_steps::Answer;
 
 /// Both answers, and what was wrong.
 pub struct Outcome {
     /// What the library answered.
     pub answer: Answer,
     /// What the other judge or writer answered.
-    pub other: by_steps::Answer,
+    pub other: Answer,
     /// What was wrong, if anything was.
     pub wrong: Result<(), String>,
 }
 
 /// Whether number, tick, step and count are the same.
-pub fn same_answer(answer: Answer, other: &by_steps::Answer) -> Result<(), String> {
-    let ours = [
-        answer.number.as_u32(),
-        answer.tick,
-        answer.step,
-        answer.count,
-    ];
-    let theirs = [other.number, other.tick, other.step, other.count];
-    same(&ours, &theirs, "the answers differ")
+pub fn same_answer(answer: Answer, other: Answer) -> Result<(), String> {
+    same(&[answer], &[other], "the answers differ")
 }
 
 /// Whether two slices are equal; if not, these words.

@@ -1,22 +1,25 @@
 //! The place that an answer names, held to document 01, "Numbers and what they leave", and to no judge.
 
+use by_steps::Answer;
 use parties::{steps_of, ticks_of};
-use station::{Answer, Number};
+use station::{Fault, Refusal, COMPLETE};
+
+const CUT: u32 = Fault::Cut.number();
 
 /// "A verdict carries the deciding tick and the step holding it (20: the finish tick; 22: total ticks and n)." "Every
 /// refusal has tick 0 and count 0, its step is the offending one for 6 and 7 and otherwise 0".
 pub fn check_place(answer: Answer, file: &[u8]) -> Result<(), String> {
-    if !answer.number.is_verdict() {
-        return check_refusal(answer);
+    if let Ok(refusal) = Refusal::try_from(answer.number) {
+        return check_refusal(answer, refusal);
     }
     let steps = steps_of(file);
     let begin = |place: usize| ticks_of(&steps[..place]);
     let step = answer.step as usize;
     let held = step < steps.len() && (begin(step)..begin(step + 1)).contains(&answer.tick);
     let right = match answer.number {
-        Number::Cut => (answer.tick, step) == (ticks_of(&steps), steps.len()),
+        CUT => (answer.tick, step) == (ticks_of(&steps), steps.len()),
         // Its finish tick is the first of the end, where neither CLK nor DATA is pulled any more.
-        Number::Complete => {
+        COMPLETE => {
             let pulled = steps.iter().rposition(|step| step.lines & 6 != 0);
             held && answer.tick == begin(pulled.map_or(0, |last| last + 1))
         }
@@ -29,8 +32,8 @@ pub fn check_place(answer: Answer, file: &[u8]) -> Result<(), String> {
     }
 }
 
-fn check_refusal(answer: Answer) -> Result<(), String> {
-    let names_a_step = matches!(answer.number, Number::ZeroDuration | Number::StrayBits);
+fn check_refusal(answer: Answer, refusal: Refusal) -> Result<(), String> {
+    let names_a_step = matches!(refusal, Refusal::ZeroDuration | Refusal::StrayBits);
     if (answer.tick, answer.count) == (0, 0) && (names_a_step || answer.step == 0) {
         Ok(())
     } else {
@@ -43,7 +46,7 @@ mod tests {
     use super::*;
     use parties::{file_of, Step};
 
-    fn checked(number: Number, tick: u32, step: u32, count: u32) -> bool {
+    fn checked(number: u32, tick: u32, step: u32, count: u32) -> bool {
         let lines = [(3, 6), (2, 4), (4, 0), (1, 0)];
         let steps = lines.map(|(duration, lines)| Step { duration, lines });
         let answer = Answer {
@@ -61,19 +64,21 @@ mod tests {
         for (tick, held) in places.into_iter().enumerate() {
             for step in 0..6 {
                 let tick = tick as u32;
-                assert_eq!(checked(Number::OutOfTurn, tick, step, 0), step == held);
+                let out_of_turn = Fault::OutOfTurn.number();
+                assert_eq!(checked(out_of_turn, tick, step, 0), step == held);
                 let finish = (tick, step) == (5, 2);
-                assert_eq!(checked(Number::Complete, tick, step, 1), finish);
+                assert_eq!(checked(COMPLETE, tick, step, 1), finish);
             }
         }
     }
 
     #[test]
     fn a_cut_and_a_refusal_have_their_places() {
-        assert!(checked(Number::Cut, 10, 4, 0));
-        assert!(!checked(Number::Cut, 9, 3, 0) && !checked(Number::Cut, 10, 3, 0));
-        assert!(checked(Number::StrayBits, 0, 3, 0) && checked(Number::WrongTotal, 0, 0, 0));
-        assert!(!checked(Number::WrongTotal, 0, 1, 0) && !checked(Number::WrongTotal, 1, 0, 0));
-        assert!(!checked(Number::StrayBits, 0, 3, 1));
+        assert!(checked(CUT, 10, 4, 0));
+        assert!(!checked(CUT, 9, 3, 0) && !checked(CUT, 10, 3, 0));
+        let [stray, total] = [Refusal::StrayBits, Refusal::WrongTotal].map(Refusal::number);
+        assert!(checked(stray, 0, 3, 0) && checked(total, 0, 0, 0));
+        assert!(!checked(total, 0, 1, 0) && !checked(total, 1, 0, 0));
+        assert!(!checked(stray, 0, 3, 1));
     }
 }

@@ -3,6 +3,7 @@
 use crate::case::Case;
 use crate::classes::{Kind, CLASSES};
 use crate::outcome::Outcome;
+use trials::name_of;
 
 /// The most steps that are printed.
 const MOST: usize = 40;
@@ -26,11 +27,11 @@ pub fn print(name: Name, case: &Case, what: &str, outcome: &Outcome) {
     }
     println!(
         "  library  {} {} {} {} {}",
-        ours.number.as_u32(),
+        ours.number,
         ours.tick,
         ours.step,
         ours.count,
-        ours.number
+        name_of(ours.number)
     );
     println!(
         "  by_steps {} {} {} {}",

@@ -3,8 +3,9 @@
 use crate::case::{Case, Expected};
 use crate::lent::{Lent, Pattern, Place};
 use crate::outcome::{same, same_answer, Outcome};
+use by_steps::Answer;
 use parties::Random;
-use station::{Answer, Number};
+use station::WRITTEN;
 
 /// The memory of the trial, used again for each case.
 pub struct WriteTrial {
@@ -35,10 +36,10 @@ impl WriteTrial {
         self.string.part_mut(from).copy_from_slice(&case.string);
         self.destination.fill(to, &self.pattern);
         self.other_destination.fill(to, &self.pattern);
-        let answer = station::write(self.string.part(from), self.destination.part_mut(to));
+        let answer = trials::write(self.string.part(from), self.destination.part_mut(to));
         let other = by_steps::write(&case.string, self.other_destination.part_mut(to));
-        let wrong = same_answer(answer, &other).and_then(|()| self.check(answer, from, to, case));
-        if answer.number == Number::Written && wrong.is_ok() {
+        let wrong = same_answer(answer, other).and_then(|()| self.check(answer, from, to, case));
+        if answer.number == WRITTEN && wrong.is_ok() {
             case.file = self.destination.part(to)[..answer.count as usize].to_vec();
             case.expected = if case.string.is_empty() {
                 Expected::Empty

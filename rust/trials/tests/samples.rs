@@ -1,26 +1,14 @@
 //! Both judges and both writers held to document 01's sample recordings, as they stand in samples/.
 
+use by_steps::Answer;
 use parties::{file_of, Step, LONGEST, MOST_STEPS};
-use station::Number;
+use station::WRITTEN;
 use std::path::Path;
+use trials::name_of;
 
-type Judge = fn(&[u8], &mut [u8], &mut [u32]) -> [u32; 4];
+type Judge = fn(&[u8], &mut [u8], &mut [u32]) -> Answer;
 
-const JUDGES: [Judge; 2] = [
-    |file, bytes, ledger| {
-        let answer = station::judge(file, bytes, ledger);
-        [
-            answer.number.as_u32(),
-            answer.tick,
-            answer.step,
-            answer.count,
-        ]
-    },
-    |file, bytes, ledger| {
-        let answer = by_steps::judge(file, bytes, ledger);
-        [answer.number, answer.tick, answer.step, answer.count]
-    },
-];
+const JUDGES: [Judge; 2] = [trials::judge, by_steps::judge];
 
 /// The samples' names and bytes, by their names.
 fn samples() -> Vec<(String, Vec<u8>)> {
@@ -40,15 +28,19 @@ fn samples() -> Vec<(String, Vec<u8>)> {
 /// A judgement as bin/judge prints it. No place beyond the count may have changed.
 fn judged(judge: Judge, name: &str, file: &[u8]) -> String {
     let (mut bytes, mut ledger) = ([0xA5; 1000], [7; 2000]);
-    let [number, tick, step, count] = judge(file, &mut bytes, &mut ledger);
+    let Answer {
+        number,
+        tick,
+        step,
+        count,
+    } = judge(file, &mut bytes, &mut ledger);
     let (handed, kept) = bytes.split_at(count as usize);
     let (ticks, kept_ticks) = ledger.split_at(2 * handed.len());
     assert!(kept.iter().all(|place| *place == 0xA5), "{name}");
     assert!(kept_ticks.iter().all(|place| *place == 7), "{name}");
-    let named = Number::ALL.iter().find(|named| named.as_u32() == number);
     let mut text = format!(
         "{number} {tick} {step} {count} {} samples/{name}\n",
-        named.unwrap()
+        name_of(number)
     );
     if count > 0 {
         let bytes: String = handed.iter().map(|byte| format!(" {byte:02x}")).collect();
@@ -79,7 +71,13 @@ fn the_longest_recording_is_judged_to_its_end() {
     let file = file_of(&[hold; MOST_STEPS]);
     for judge in JUDGES {
         let answer = judge(&file, &mut [0; 1000], &mut [0; 2000]);
-        assert_eq!(answer, [22, 1_048_560_000, 16_000, 0]);
+        let end = Answer {
+            number: 22,
+            tick: 1_048_560_000,
+            step: 16_000,
+            count: 0,
+        };
+        assert_eq!(answer, end);
     }
 }
 
@@ -89,7 +87,7 @@ fn both_writers_write_the_samples() {
     let none = include_bytes!("../../../samples/written-from-no-bytes.rec");
     for (string, sample) in [(&b"A"[..], &s1[..]), (b"", none)] {
         let (mut ours, mut other) = (vec![0; sample.len()], vec![0; sample.len()]);
-        assert_eq!(station::write(string, &mut ours).number, Number::Written);
+        assert_eq!(trials::write(string, &mut ours).number, WRITTEN);
         assert_eq!(by_steps::write(string, &mut other).number, 0);
         assert_eq!((&ours[..], &other[..]), (sample, sample));
     }
