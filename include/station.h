@@ -10,6 +10,9 @@
 #include <stddef.h>
 #include <stdint.h>
 
+/* The station's version, of the library, the commands and the crate for Rust alike. */
+#define STATION_VERSION "0.2.0"
+
 #ifdef __cplusplus
 extern "C" {
 #endif
