@@ -45,7 +45,7 @@ common_option() {
 # is an installed one, and its programs are used as they are.
 need_program() {
     program=$root/target/bin/$1
-    [ ! -d "$root/crates" ] || is_ready || "$root/scripts/build" </dev/null || exit 2
+    [ ! -d "$root/crates" ] || is_ready || "$root/scripts/build" || exit 2
     [ -x "$program" ] || fail "its program is missing: $program"
 }
 
