@@ -1,8 +1,17 @@
-// A file's new contents.
+// A recording put down at its place.
+use libc::STDOUT_FILENO;
+
+// Standard output is called `-`.
+pub fn is_standard_output(place: &[u8]) -> bool {
+    place.len() == 1 && place[0] == b'-'
+}
 
 // Answers whether all of it was written; otherwise errno says why.
-pub fn save(name: &[u8], contents: &[u8]) -> bool {
-    let descriptor = os::open_overwrite(name);
+pub fn save(place: &[u8], contents: &[u8]) -> bool {
+    if is_standard_output(place) {
+        return io::write_all(STDOUT_FILENO, contents);
+    }
+    let descriptor = os::open_overwrite(place);
     if descriptor < 0 {
         return false;
     }

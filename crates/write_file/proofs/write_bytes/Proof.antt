@@ -4,46 +4,15 @@ use Rattle.io.proofs.Counting.{front}
 use Rattle.write_file.proofs.{Within.count-within, write_bytes.Statement.statement}
 use Rattle.write_file.proofs.write_bytes.Tie as tie
 
--- src/main.rt:43:27
-
--- src/main.rt:44:39
-
--- src/main.rt:44:9
-
--- src/main.rt:45:68
-
--- src/main.rt:45:53
 array-share-prefix-destination : tie.Need-array-share-prefix-destination
 array-share-prefix-destination c =
-    let answered = c .before .before .before .before .before in
+    let answered = c .before .before .before .before in
     count-within _ _ _ _ (answered .write .ensures .given) (answered .write .kept .1 .0)
-
--- src/main.rt:45:53
-
--- src/main.rt:45:42
-
--- src/main.rt:46:5
-
--- src/main.rt:48:9
-
--- src/main.rt:49:45
-
--- src/main.rt:49:9
-
--- src/main.rt:49:9
-
--- src/main.rt:49:9
-
--- src/main.rt:51:5
-
--- src/main.rt:42:1
-
--- src/main.rt:42:1
 
 pub write-bytes-spec : {M : Type 1} → statement M
 write-bytes-spec =
     tie.close
     (tie.spec (λ c κs. search needs) (λ c. search needs) (λ c κs. search needs) (λ c. search needs)
     array-share-prefix-destination (λ c. front _ _ (array-share-prefix-destination (c .before)))
-    (λ c κs. search needs) (λ c κs. search needs) (λ c κs. search needs) (λ c. search needs) (λ c κs. search needs)
-    (λ c. search needs) (λ c. search needs) (λ c κs. search needs) (λ c. search needs) (λ c. search needs))
+    (λ c κs. search needs) (λ c κs. search needs) (λ c. search needs) (λ c κs. search needs) (λ c. search needs)
+    (λ c κs. search needs) (λ c. search needs))
