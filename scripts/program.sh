@@ -5,6 +5,8 @@ export LC_ALL=C
 command=$(basename "$0")
 root=$(cd "$(dirname "$(readlink -f "$0")")/.." && pwd) || exit 2
 ready=$root/target/ready
+# All commands; each stands on the program of its name with _file after it.
+commands="judge write vcd"
 newline='
 '
 
@@ -55,7 +57,8 @@ is_ready() {
 }
 
 sources_sum() { sum_of crates.txt crates; }
-built_sum() { sum_of target/bin/judge_file target/bin/write_file target/bin/vcd_file target/staticlib/libstation.a; }
+# shellcheck disable=SC2046,SC2086 # a command is a word
+built_sum() { sum_of $(printf 'target/bin/%s_file ' $commands) target/staticlib/libstation.a; }
 
 # One checksum of all these files, by their names and contents; none if any can't be read.
 sum_of() {
