@@ -28,11 +28,11 @@ fn root() -> PathBuf {
     }
 }
 
-/// Tells Cargo what the archive is made from: the Rattle crates. `rt` itself knows which of them it takes.
-fn rerun_if_changed(root: &Path) {
-    println!("cargo:rerun-if-changed=build.rs");
-    for source in ["crates.txt", "crates"] {
-        println!("cargo:rerun-if-changed={}", root.join(source).display());
+/// Tells Cargo what the archive is made from: the Rattle crates. `rt` itself knows which of them it takes. The paths go from
+/// this crate, so that in a copy of the repository they are the copy's.
+fn rerun_if_changed() {
+    for source in ["build.rs", "../../crates.txt", "../../crates"] {
+        println!("cargo:rerun-if-changed={source}");
     }
 }
 
@@ -81,5 +81,5 @@ fn main() {
     let root = root();
     prove(&root);
     link(&root);
-    rerun_if_changed(&root);
+    rerun_if_changed();
 }
