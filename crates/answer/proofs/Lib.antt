@@ -1,3 +1,4 @@
--- Why it holds. The crates above cite both.
+-- Why it holds. The crates above cite Numbers and NameLaws.
 pub mod Numbers
 pub mod NameLaws
+mod PassName

@@ -49,6 +49,10 @@ wordAmong (n is word ∷ rest) number = if eqb number n then word else wordAmong
 unfoldable pub wordOf : (number : ℕ) → List ℕ
 wordOf number = ascii (wordAmong words number)
 
+-- Of all numbers 20 alone has the word of a pass.
+abbrev pub OnlyCompleteIsNamedSo : Type 0
+OnlyCompleteIsNamedSo = (number : ℕ) → wordOf number ≡ ascii "complete" → number ≡ 20
+
 -- A word in a room of 32 characters, with zeros after it.
 unfoldable pub inRoom : (word : List ℕ) → List ℕ
 inRoom word = word ++ replicate (32 - length word) 0
