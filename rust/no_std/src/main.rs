@@ -1,6 +1,5 @@
 //! The station's library in a program without `std`: it has a panic handler of its own, so that it can't be built if anything
-//! brings `std` in. C's library starts and ends it. `tests/run` builds it alone, by the profile `no_std`: built together with
-//! the other crates, it would share their `station`, which has `std`.
+//! brings `std` in. C's library starts and ends it.
 //!
 //! Exit status: 0 if a string that was written is read back and a refusal is an error.
 
