@@ -2,6 +2,7 @@
 use Rattle.answer.specs.Basics.{ℕ, Bool, true, false, not, _&&_, _||_, List, [], _∷_, _≡_, eqb, if_then_else_}
 use mathlib.Core.Path.{refl, subst, _∙_}
 use lib.Dec.{T, eqb→eq, eqb-refl}
+use lib.Ieee.Fits.{and-i, and-l, and-r}
 use borrow.Author.Tests.{eqb-true}
 use Rattle.answer.specs.Text.{ascii}
 use Rattle.answer.specs.Names.{Word, _is_, words, wordAmong, wordOf, OnlyCompleteIsNamedSo}
@@ -12,18 +13,6 @@ sameText [] (b ∷ t) = false
 sameText (a ∷ s) [] = false
 sameText (a ∷ s) (b ∷ t) = eqb a b && sameText s t
 
-both : (a b : Bool) → T a → T b → T (a && b)
-both true b x y = y
-both false b x y = absurd x
-
-left : (a b : Bool) → T (a && b) → T a
-left true b x = tt
-left false b x = x
-
-right : (a b : Bool) → T (a && b) → T b
-right true b x = x
-right false b x = absurd x
-
 -- The first holds, since the second does.
 unless-not : (a b : Bool) → T (a || not b) → T b → T a
 unless-not true b x y = tt
@@ -32,7 +21,7 @@ unless-not false false x y = y
 
 same-text : (s : List ℕ) → T (sameText s s)
 same-text [] = tt
-same-text (a ∷ s) = both (eqb a a) (sameText s s) (eqb-refl a) (same-text s)
+same-text (a ∷ s) = and-i (eqb a a) (sameText s s) (eqb-refl a) (same-text s)
 
 same : (s t : List ℕ) → s ≡ t → T (sameText s t)
 same s t e = subst (λ (l : List ℕ). T (sameText s l)) e (same-text s)
@@ -52,8 +41,8 @@ alone number text [] n t e =
     let none = ascii "no-such-number" in
     absurd (unless-not false (sameText none text) t (same none text e))
 alone number text (m is word ∷ rest) n t e =
-    let here = left (eqb m number || not (sameText (ascii word) text)) (hasAlone number text rest) t in
-    let further = right (eqb m number || not (sameText (ascii word) text)) (hasAlone number text rest) t in
+    let here = and-l (eqb m number || not (sameText (ascii word) text)) (hasAlone number text rest) t in
+    let further = and-r (eqb m number || not (sameText (ascii word) text)) (hasAlone number text rest) t in
     by-test (eqb n m) refl (its-own number text m (ascii word) here) (alone number text rest n further) e
   where
     by-test : (b : Bool) → eqb n m ≡ b → (ascii word ≡ text → m ≡ number) → (ascii (wordAmong rest n) ≡ text → n ≡ number)

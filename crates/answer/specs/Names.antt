@@ -53,14 +53,18 @@ wordOf number = ascii (wordAmong words number)
 abbrev pub OnlyCompleteIsNamedSo : Type 0
 OnlyCompleteIsNamedSo = (number : ℕ) → wordOf number ≡ ascii "complete" → number ≡ 20
 
--- A word in a room of 32 characters, with zeros after it.
+-- How many characters a name has room for.
+abbrev pub nameRoom : ℕ
+nameRoom = 32
+
+-- A word in that room, with zeros after it.
 unfoldable pub inRoom : (word : List ℕ) → List ℕ
-inRoom word = word ++ replicate (32 - length word) 0
+inRoom word = word ++ replicate (nameRoom - length word) 0
 
 -- The characters of a name are the word's, and then zeros, of which there is one at least.
 pub record Spells (word : List ℕ) (name : Name) : Type 0 where
   pub counted : name .length ≡ length word
-  pub ended : length word < 32
+  pub ended : length word < nameRoom
   pub spelt : name .characters ≡ inRoom word
 
 -- The characters before the first space, at most so many.
