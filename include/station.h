@@ -19,12 +19,12 @@ extern "C" {
 
 /* An answer's numbers. */
 enum station_number {
-    /* the one pass: the stream was finished, and some sender and receiver that keep the rules could have made the recording */
+    /* the one pass: the transfer was finished, and some sender and receiver that keep the rules could have made the recording */
     STATION_COMPLETE = 20,
 
     /* verdicts of the judge that are no pass */
     STATION_EMPTY_STREAM = 21,              /* the sender did not go on within 512 ticks, and no byte was handed over: a time-out */
-    STATION_CUT = 22,                       /* the recording ended before the stream was finished */
+    STATION_CUT = 22,                       /* the recording ended before the transfer was finished */
     STATION_ATTENTION = 23,                 /* ATN was pulled */
     STATION_NO_RECEIVER = 24,               /* nobody took DATA in the first 256 ticks */
     STATION_BAD_START = 25,                 /* CLK was not pulled at the first tick */
@@ -39,7 +39,9 @@ enum station_number {
     STATION_CLOCK_STALL = 34,               /* a bit's set-up or valid time was longer than 200 ticks */
     STATION_RECEIVER_TIME_OUT = 35,         /* a byte was not taken within 1,000 ticks */
     STATION_HURRIED = 36,                   /* the sender went on fewer than 100 ticks after the take */
-    STATION_MOVED_AFTER_THE_END = 37,       /* a line moved after the stream was finished */
+    STATION_MOVED_AFTER_THE_END = 37,       /* a line moved after the transfer was finished */
+    STATION_END_MARK_UNDER_ATTENTION = 38,  /* the sender stayed silent for 200 ticks, an end mark, while ATN was pulled */
+    STATION_ATTENTION_RELEASED = 39,        /* ATN was released before the commands were finished */
 
     /* refusals of the judge: they are about the file or the memory lent, not about a drive */
     STATION_SHORT_FILE = 1,     /* fewer than 16 bytes */

@@ -2,3 +2,4 @@
 pub mod Numbers
 pub mod NameLaws
 mod PassName
+mod Told

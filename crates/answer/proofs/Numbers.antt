@@ -6,8 +6,8 @@ use Rattle.answer.specs.Numbers.{refusalNumber, verdictNumber, OnlyCompl
 use Rattle.answer.specs.Types.{Refusal, ShortFile, WrongVersion, TooManySteps, WrongOffset, WrongLength, ZeroDuration, StrayBits}
 use Rattle.answer.specs.Types.{WrongTotal, ShortBuffers, TooManyBytes, ShortDestination, Fault, EmptyStream, Attention, NoReceiver}
 use Rattle.answer.specs.Types.{BadStart, OutOfTurn, EndMarkNotAcknowledged, AcknowledgementShort, AcknowledgementLong, LateClock}
-use Rattle.answer.specs.Types.{SenderTimeout, ValidTimeShort, DataMoved, ClockStall, ReceiverTimeout, Hurried, MovedAfterEnd, Verdict}
-use Rattle.answer.specs.Types.{Complete, Cut, Broken}
+use Rattle.answer.specs.Types.{SenderTimeout, ValidTimeShort, DataMoved, ClockStall, ReceiverTimeout, Hurried, MovedAfterEnd}
+use Rattle.answer.specs.Types.{EndMarkUnderAttention, AttentionReleased, Verdict, Complete, Cut, Broken}
 
 -- Four kinds of numbers, told by a test that computes: a new number is one line of a list below.
 abbrev refusals : List Refusal
@@ -44,6 +44,8 @@ fault-kind ClockStall = refl
 fault-kind ReceiverTimeout = refl
 fault-kind Hurried = refl
 fault-kind MovedAfterEnd = refl
+fault-kind EndMarkUnderAttention = refl
+fault-kind AttentionReleased = refl
 
 verdict-kind : (v : Verdict) → kindOf (verdictNumber v) ≡ kind v
 verdict-kind Complete = refl

@@ -7,7 +7,7 @@ infix 70 _is_
 pub data Word : Type 0 where
   _is_ : ℕ → String → Word
 
--- 0 is the writer's answer where it wrote, 1 to 11 are refusals, 20 to 37 verdicts. A new number is one more line here.
+-- 0 is the writer's answer where it wrote, 1 to 11 are refusals, 20 to 39 verdicts. A new number is one more line here.
 abbrev pub words : List Word
 words =
     0 is "written"
@@ -40,6 +40,8 @@ words =
     ∷ 35 is "receiver-time-out"
     ∷ 36 is "hurried"
     ∷ 37 is "moved-after-the-end"
+    ∷ 38 is "end-mark-under-attention"
+    ∷ 39 is "attention-released"
     ∷ []
 
 abbrev pub wordAmong : List Word → (number : ℕ) → String

@@ -1,10 +1,10 @@
--- Document 01's numbers, "Numbers and what they leave": the one place where they stand.
+-- Document 01's numbers, "Numbers and what they leave", and those of document 02's requests: the one place where they stand.
 use Rattle.answer.specs.Basics.{ℕ, _≡_}
 use Rattle.answer.specs.Types.{Refusal, ShortFile, WrongVersion, TooManySteps, WrongOffset, WrongLength, ZeroDuration, StrayBits}
 use Rattle.answer.specs.Types.{WrongTotal, ShortBuffers, TooManyBytes, ShortDestination, EmptyStream, Attention, NoReceiver, BadStart}
 use Rattle.answer.specs.Types.{OutOfTurn, EndMarkNotAcknowledged, AcknowledgementShort, AcknowledgementLong, LateClock, SenderTimeout}
-use Rattle.answer.specs.Types.{ValidTimeShort, DataMoved, ClockStall, ReceiverTimeout, Hurried, MovedAfterEnd, Verdict, Complete, Cut}
-use Rattle.answer.specs.Types.{Broken}
+use Rattle.answer.specs.Types.{ValidTimeShort, DataMoved, ClockStall, ReceiverTimeout, Hurried, MovedAfterEnd, EndMarkUnderAttention}
+use Rattle.answer.specs.Types.{AttentionReleased, Verdict, Complete, Cut, Broken}
 
 -- "Refusals"; the definitions that give them say when.
 abbrev pub refusalNumber : Refusal → ℕ
@@ -40,6 +40,9 @@ verdictNumber (Broken ClockStall) = 34
 verdictNumber (Broken ReceiverTimeout) = 35
 verdictNumber (Broken Hurried) = 36
 verdictNumber (Broken MovedAfterEnd) = 37
+-- #101: "in D, (0,0) at offset 199 gives 38 (end mark under attention)"; "ATN released otherwise .. gives 39".
+verdictNumber (Broken EndMarkUnderAttention) = 38
+verdictNumber (Broken AttentionReleased) = 39
 
 -- A number is a verdict's: some verdict has it.
 pub record IsVerdict (number : ℕ) : Type 0 where

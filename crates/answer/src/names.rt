@@ -1,4 +1,4 @@
-// One word for each number of an answer, after document 01's tables.
+// One word for each number of an answer, after document 01's tables and document 02's requests.
 ghost use Rattle.answer.specs.Basics.{_+_, _≤_, length};
 ghost use Rattle.answer.specs.Names.{wordAt, wordOf, Spells};
 
@@ -15,7 +15,7 @@ const ROOM: usize = 32;
 const WIDTH: usize = 25;
 
 // How many numbers have a row, from 0 on: a new number is one more row.
-const ROWS: usize = 38;
+const ROWS: usize = 40;
 
 // 0 is the writer's answer where it wrote; "Refusals" are next, and "Verdicts" from 20 on.
 const WORDS: [u8; ROWS * WIDTH] = *b"\
@@ -56,7 +56,9 @@ const WORDS: [u8; ROWS * WIDTH] = *b"\
     clock-stall              \
     receiver-time-out        \
     hurried                  \
-    moved-after-the-end      ";
+    moved-after-the-end      \
+    end-mark-under-attention \
+    attention-released       ";
 
 const NO_SUCH_NUMBER: [u8; WIDTH] = *b"no-such-number           ";
 

@@ -1,4 +1,4 @@
-// What a reading can come to, and document 01's number for each.
+// What a reading can come to, and the number that document 01 or a request of document 02 gives each.
 ghost use Rattle.answer.specs.Basics.{_≡_};
 ghost use Rattle.answer.specs.Numbers.{verdictNumber};
 
@@ -20,6 +20,8 @@ pub enum Fault {
     ReceiverTimeout,
     Hurried,
     MovedAfterEnd,
+    EndMarkUnderAttention,
+    AttentionReleased,
 }
 
 // Only a recording that runs out in phase E is complete: no tick can decide so.
@@ -50,6 +52,8 @@ impl Fault {
             Fault::ReceiverTimeout => 35,
             Fault::Hurried => 36,
             Fault::MovedAfterEnd => 37,
+            Fault::EndMarkUnderAttention => 38,
+            Fault::AttentionReleased => 39,
         }
     }
 }

@@ -11,7 +11,7 @@ use core::fmt;
 /// use station::{Fault, JudgeError, Refusal};
 ///
 /// let fault = JudgeError::Fault { fault: Fault::Cut, tick: 257, step: 2, count: 0 };
-/// let sentence = "fault 22 (cut) at tick 257, step 2: the recording ended before the stream was finished";
+/// let sentence = "fault 22 (cut) at tick 257, step 2: the recording ended before the transfer was finished";
 /// assert_eq!(fault.to_string(), sentence);
 ///
 /// let refusal = JudgeError::Refusal { refusal: Refusal::StrayBits, step: 3 };

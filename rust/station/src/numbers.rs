@@ -3,7 +3,7 @@
 use crate::number::numbers;
 use crate::UnknownNumber;
 
-/// The number of the one pass, a finished stream: [`judge`](crate::judge) then gives a [`Transfer`](crate::Transfer).
+/// The number of the one pass, a finished transfer: [`judge`](crate::judge) then gives a [`Transfer`](crate::Transfer).
 pub const COMPLETE: u32 = 20;
 
 /// The number that says that the writer wrote: [`write`](crate::write) then gives a [`Written`](crate::Written). It says
@@ -27,7 +27,7 @@ numbers! {
     /// ```
     "fault" Fault {
         EmptyStream = 21 "empty-stream": "the sender did not go on within 512 ticks, and no byte was handed over: a time-out",
-        Cut = 22 "cut": "the recording ended before the stream was finished",
+        Cut = 22 "cut": "the recording ended before the transfer was finished",
         Attention = 23 "attention": "ATN was pulled",
         NoReceiver = 24 "no-receiver": "nobody took DATA in the first 256 ticks",
         BadStart = 25 "bad-start": "CLK was not pulled at the first tick",
@@ -42,7 +42,9 @@ numbers! {
         ClockStall = 34 "clock-stall": "a bit's set-up or valid time was longer than 200 ticks",
         ReceiverTimeOut = 35 "receiver-time-out": "a byte was not taken within 1,000 ticks",
         Hurried = 36 "hurried": "the sender went on fewer than 100 ticks after the take",
-        MovedAfterTheEnd = 37 "moved-after-the-end": "a line moved after the stream was finished",
+        MovedAfterTheEnd = 37 "moved-after-the-end": "a line moved after the transfer was finished",
+        EndMarkUnderAttention = 38 "end-mark-under-attention": "the sender stayed silent for 200 ticks, an end mark, while ATN was pulled",
+        AttentionReleased = 39 "attention-released": "ATN was released before the commands were finished",
     }
 
     /// Why the judge refused a recording, or the memory it was lent. It says nothing of a drive.

@@ -1,11 +1,15 @@
 //! How often each number came up, and what was different.
 
 use crate::classes::CLASSES;
+use station::Fault;
 use std::collections::HashMap;
 use trials::numbers;
 
 /// From how many cases on every number must have come up.
 const ENOUGH: u64 = 10_000;
+
+/// The numbers that only a command transfer can have: none is drawn here.
+const OF_COMMANDS: [Fault; 2] = [Fault::EndMarkUnderAttention, Fault::AttentionReleased];
 
 /// The counts of a run.
 #[derive(Default)]
@@ -46,6 +50,7 @@ impl Tally {
     fn missing(&self) -> Vec<(u32, &'static str)> {
         let mut missing = numbers();
         missing.retain(|(number, _)| self.times(*number) == 0);
+        missing.retain(|(number, _)| OF_COMMANDS.iter().all(|of| of.number() != *number));
         missing
     }
 
