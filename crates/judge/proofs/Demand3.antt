@@ -4,10 +4,11 @@ use mathlib.Core.Path.{sym, ap, subst, subst⁻¹, _∙_}
 use lib.Seq.{take-append-seam}
 use Rattle.recording.specs.{Types.Step, Ticks.stepsOf}
 use Rattle.recording.proofs.GoodFormLaws.{good-form}
-use Rattle.transfer.specs.{Types.Limits, Types.Lines, Types.Byte, Limits.standardLimits, Outcome.outcome, Pair.values, Pair.SameOrLater}
+use Rattle.transfer.specs.{Types.Limits, Types.Lines, Types.Byte, Limits.standardLimits, Limits.commandLimits, Outcome.outcome, Pair.values}
+use Rattle.transfer.specs.Pair.{SameOrLater}
 use Rattle.transfer.specs.Demand3.{Consistent, shownSender, shownReceiver, Explains, CompleteWith as CompleteTicks}
 use Rattle.answer.specs.Numbers.{verdictNumber}
-use Rattle.transfer.proofs.Demand3.{demand3, standard-consistent}
+use Rattle.transfer.proofs.Demand3.{demand3, standard-consistent, commands-consistent}
 use Rattle.answer.proofs.Numbers.{only-complete-is-20}
 use Rattle.judge.specs.Promise.{JudgePromise}
 use Rattle.judge.specs.Judged.{Judged, tickList, verdictLeaves, judged}
@@ -76,10 +77,18 @@ module _ (L : Limits) (times : Consistent L) (file b g : List ℕ) where
       (is-verdict L file b g (good .steps) (good-form file (good .steps) .1 (good .good-form)) (good .byte-room) (good .ledger-room))
       at-verdict
 
--- The promise, from its first clause, for all times that are consistent; and at document 01's own.
-pub promise : (L : Limits) → Consistent L → (file b g : List ℕ) (j : Judged) → j ≡ judged L file b g → JudgePromise L file b g j
+-- The promise, from its first clause, for all times that are consistent; and for each entry, from the limits that its call made.
+promise : (L : Limits) → Consistent L → (file b g : List ℕ) (j : Judged) → j ≡ judged L file b g → JudgePromise L file b g j
 promise L times file b g j e =
     record { given = e; explained = λ good. subst⁻¹ (FileDemand3 L file) e (file-demand3 L times file b g good) }
 
-pub promised : (file b g : List ℕ) (j : Judged) → j ≡ judged standardLimits file b g → JudgePromise standardLimits file b g j
-promised = promise standardLimits standard-consistent
+made : (L : Limits) → Consistent L → (file b g : List ℕ) (j : Judged) (K : Limits) → K ≡ L → j ≡ judged K file b g → JudgePromise L file b g j
+made L times file b g j K e h = promise L times file b g j (h ∙ ap (λ (M : Limits). judged M file b g) e)
+
+pub standard-promised : (file b g : List ℕ) (j : Judged) (K : Limits) → K ≡ standardLimits → j ≡ judged K file b g
+    → JudgePromise standardLimits file b g j
+standard-promised = made standardLimits standard-consistent
+
+pub command-promised : (file b g : List ℕ) (j : Judged) (K : Limits) → K ≡ commandLimits → j ≡ judged K file b g
+    → JudgePromise commandLimits file b g j
+command-promised = made commandLimits (commands-consistent standardLimits standard-consistent)

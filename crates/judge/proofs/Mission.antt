@@ -1,7 +1,7 @@
 -- What the station stands on. Assumes nothing.
-use Rattle.answer.specs.Basics.{ℕ, _≤_, Bool, true, false, List, [], length, _≡_, ltb}
+use Rattle.answer.specs.Basics.{ℕ, zero, suc, _≤_, Bool, true, false, List, [], _++_, length, replicate, _≡_, ltb}
 use mathlib.Core.Bool.{false≢true}
-use mathlib.Core.Path.{refl, sym, ap, subst⁻¹, _∙_}
+use mathlib.Core.Path.{refl, sym, ap, ap₂, subst, subst⁻¹, _∙_}
 use native.Mathlib.Omega.{arith}
 use lib.ListN.{length-map}
 use borrow.Author.Tests.{ltb-true, ltb-false}
@@ -11,16 +11,19 @@ use Rattle.recording.specs.{Form.formOf, GoodForm.GoodForm, Layout.headerAt}
 use Rattle.recording.specs.Ticks.{stepsFrom, stepsOf, totalTicks, ticks, ticksOf}
 use Rattle.recording.specs.Types.{Form, Good, Refused, Step}
 use Rattle.recording.proofs.{GoodFormLaws.good-form, StepLaws.steps-count, StepLaws.total-counts}
-use Rattle.transfer.specs.{Types.End, Types.Phase, Types.Limits, Demand3.Consistent, Limits.standardLimits, Lines.linesOf, Outcome.Outcome}
-use Rattle.transfer.specs.{Outcome.run, Outcome.outcome, Pair.values, Moves.Stage, Moves.decisionIn, Moves.decisionOf}
+use Rattle.transfer.specs.{Demand3.Consistent, Limits.standardLimits, Limits.commandLimits, Lines.linesOf, Outcome.Outcome}
+use Rattle.transfer.specs.Types.{Entry, Plain, Command, Limits, Phase, End, Finished}
+use Rattle.transfer.specs.{Outcome.run, Outcome.outcome, Pair.values, Moves.Stage, Moves.Running, Moves.Holding, Moves.stage}
+use Rattle.transfer.specs.{Moves.decisionIn, Moves.decisionOf, Rules.lastOf}
 use Rattle.reader.specs.{States.firstState, After.stateAfter}
-use Rattle.reader.proofs.Outcomes.{outcome-states}
+use Rattle.reader.proofs.{Outcomes.outcome-states, Ends.plain-never-past, Ends.command-end-pulled}
 use Rattle.answer.proofs.Numbers.{only-complete-is-20, only-cut-is-22, verdicts-are-no-refusals}
-use Rattle.transfer.proofs.{DecisionTicks.decision-tick, Demand3.demand3, Demand3.standard-consistent, Facts.pair-sends-bytes}
-use Rattle.transfer.proofs.Stages.{Told, is-running, is-end, is-decided, told}
+use Rattle.transfer.proofs.{DecisionTicks.decision-tick, Demand3.demand3, Demand3.standard-consistent, Attention.attention-law}
+use Rattle.transfer.proofs.{Demand3.commands-consistent, Facts.pair-sends-bytes, Facts.never-both}
+use Rattle.transfer.proofs.Stages.{Told, is-running, is-holding, is-end, is-past, is-decided, told}
 use Rattle.judge.specs.Demand3.{GoodWithRoom}
-use Rattle.judge.specs.Judged.{Judged, leaves, byteRoom, ledgerRoom, tickLines, tickList, twoTicks, stepHolding, verdictLeaves}
-use Rattle.judge.specs.Mission.{Holds, AtTheEnd, given, Finished, Mission, MissionLaw, StandardMission}
+use Rattle.judge.specs.Judged.{Judged, leaves, byteRoom, ledgerRoom, tickLines, tickList, twoTicks, stepHolding, verdictLeaves, judged}
+use Rattle.judge.specs.Mission.{Holds, AtTheEnd, endOf, given, IsFinished, Mission, MissionLaw, StandardMissionLaw, NeverBothLaw}
 use Rattle.judge.proofs.{HoldingLaws.held-by-step, HoldingLaws.held-at-the-end, LedgerLists.length-values}
 use Rattle.judge.proofs.JudgedLaws.{good-steps, is-refused, few-places, few-ledger-places, is-verdict}
 
@@ -33,15 +36,19 @@ unfolding ticksOf
 header-total file n good = good .total ∙ sym (total-counts (stepsOf file))
 
 -- A fault is no pass.
+abbrev passes : Verdict → Bool
+passes Complete = true
+passes Cut = false
+passes (Broken f) = false
+
 unbroken : (fault : Fault) → Broken fault ≡ Complete → ⊥
 unbroken fault e = false≢true (ap passes e)
-  where
-    passes : Verdict → Bool
-    passes Complete = true
-    passes Cut = false
-    passes (Broken f) = false
 
-module _ (L : Limits) (times : Consistent L) (file bytes ledger : List ℕ) where
+-- Nor does one pass that is running at once.
+abbrev endsIn : Phase → Bool
+endsIn p = passes (decisionOf p 0 .verdict)
+
+module _ (L : Limits) (file bytes ledger : List ℕ) where
   abbrev got : Judged
   got = given L file bytes ledger
 
@@ -76,34 +83,72 @@ module _ (L : Limits) (times : Consistent L) (file bytes ledger : List ℕ) wher
       → verdictNumber v ≡ got .answer .number → ⊥
   no-verdict r step is v e = verdicts-are-no-refusals v r (e ∙ ap (λ (j : Judged). j .answer .number) is)
 
-  -- A decision that is complete was taken in E, and its tick is the finish tick.
-  complete-ends : (p : Phase) (tick : ℕ) → decisionOf p tick .verdict ≡ Complete → p ≡ End (decisionOf p tick .tick)
-  complete-ends p tick e = by-stage (told p)
+  -- Where commands are complete, the last tick shows ATN released.
+  last-released : (finish later : ℕ) → lastOf false (replicate finish true ++ replicate (suc later) false) ≡ false
+  last-released finish later = past finish later false
     where
-      by-stage : Told p → p ≡ End (decisionOf p tick .tick)
-      by-stage (is-running r) =
-          absurd (omega (arith, sym (ap (λ (g : Stage). verdictNumber (decisionIn g tick .verdict)) r) ∙ ap verdictNumber e))
-      by-stage (is-end finish r) = r ∙ sym (ap (λ (q : Phase). End (decisionOf q tick .tick)) r)
-      by-stage (is-decided fault r) = absurd (unbroken fault (sym (ap (λ (q : Phase). decisionOf q tick .verdict) r) ∙ e))
+      all-released : (later : ℕ) → lastOf false (replicate later false) ≡ false
+      all-released zero = refl
+      all-released (suc later) = all-released later
+
+      past : (finish later : ℕ) (b : Bool) → lastOf b (replicate finish true ++ replicate (suc later) false) ≡ false
+      past zero later b = all-released later
+      past (suc finish) later b = past finish later true
+
+  no-end : Consistent L → L .entry ≡ Command → read .decision .verdict ≡ Complete → (finish : ℕ)
+      → stateAfter L firstState (tickList file) .phase ≡ End finish → ⊥
+  no-end times command e finish at =
+      let explained = demand3 L times (tickList file) .exactly (values (read .bytes)) .0 (record { verdict = e; bytes = refl }) in
+      let until = attention-law L (tickList file) _ explained .command command in
+      false≢true
+      (sym (ap (lastOf false) (until .is) ∙ last-released (until .finish) (until .later))
+      ∙ command-end-pulled L command (tickList file) firstState false (λ f start. ap endsIn start) finish at)
+
+  -- A decision that is complete was taken in the entry's last phase, and its tick is the finish tick.
+  complete-ends : (p : Phase) (tick : ℕ) → (L .entry ≡ Command → (finish : ℕ) → p ≡ End finish → ⊥)
+      → (L .entry ≡ Plain → (finish : ℕ) → p ≡ Finished finish → ⊥) → decisionOf p tick .verdict ≡ Complete
+      → p ≡ endOf (L .entry) (decisionOf p tick .tick)
+  complete-ends p tick no-end no-past e = by-stage (told p)
+    where
+      not-cut : (g : Stage) → stage p ≡ g → decisionIn g tick .verdict ≡ Cut → ⊥
+      not-cut g r c =
+          omega (arith, ap verdictNumber (sym c ∙ sym (ap (λ (h : Stage). decisionIn h tick .verdict) r) ∙ e))
+
+      by-entry : (entry : Entry) → L .entry ≡ entry → Told p → p ≡ endOf entry (decisionOf p tick .tick)
+      by-entry entry n (is-running r) = absurd (not-cut Running r refl)
+      by-entry entry n (is-holding byte r) = absurd (not-cut (Holding byte) r refl)
+      by-entry Plain n (is-end finish r) = r ∙ sym (ap (λ (q : Phase). End (decisionOf q tick .tick)) r)
+      by-entry Command n (is-end finish r) = absurd (no-end n finish r)
+      by-entry Plain n (is-past finish r) = absurd (no-past n finish r)
+      by-entry Command n (is-past finish r) = r ∙ sym (ap (λ (q : Phase). Finished (decisionOf q tick .tick)) r)
+      by-entry entry n (is-decided fault r) = absurd (unbroken fault (sym (ap (λ (q : Phase). decisionOf q tick .verdict) r) ∙ e))
+
+      by-stage : Told p → p ≡ endOf (L .entry) (decisionOf p tick .tick)
+      by-stage = by-entry (L .entry) refl
 
   -- 20.
-  finishes : Kind → got .answer .number ≡ 20 → Finished L file bytes ledger (got .answer .tick)
-  finishes (refusal r step is) h = absurd (no-verdict r step is Complete (sym h))
-  finishes (verdict form is) h =
+  completes : Kind → got .answer .number ≡ 20 → read .decision .verdict ≡ Complete
+  completes (refusal r step is) h = absurd (no-verdict r step is Complete (sym h))
+  completes (verdict form is) h = only-complete-is-20 _ (is-number is ∙ h)
+
+  finishes : Consistent L → Kind → got .answer .number ≡ 20 → IsFinished L file bytes ledger (got .answer .tick)
+  finishes times (refusal r step is) h = absurd (no-verdict r step is Complete (sym h))
+  finishes times (verdict form is) h =
       let e = outcome-states L (tickList file) in
-      let complete = ap (λ (o : Outcome). o .decision .verdict) (sym e) ∙ only-complete-is-20 _ (is-number is ∙ h) in
-      subst⁻¹ (λ (j : Judged). Finished L file bytes ledger (j .answer .tick)) is
+      let complete = ap (λ (o : Outcome). o .decision .verdict) (sym e) ∙ completes (verdict form is) h in
+      subst⁻¹ (λ (j : Judged). IsFinished L file bytes ledger (j .answer .tick)) is
       (record {
         form = form;
         in-end =
-            subst⁻¹ (λ (o : Outcome). stateAfter L firstState (tickList file) .phase ≡ End (o .decision .tick)) e
-            (complete-ends _ _ complete);
+            subst⁻¹ (λ (o : Outcome). stateAfter L firstState (tickList file) .phase ≡ endOf (L .entry) (o .decision .tick)) e
+            (complete-ends _ _ (λ command. no-end times command (completes (verdict form is) h))
+            (λ plain. plain-never-past L plain (tickList file) firstState (λ f start. false≢true (ap endsIn start))) complete);
       })
 
-  sends-a-byte : Kind → got .answer .number ≡ 20 → 1 ≤ got .answer .count
-  sends-a-byte (refusal r step is) h = absurd (no-verdict r step is Complete (sym h))
-  sends-a-byte (verdict form is) h =
-      let complete = only-complete-is-20 _ (is-number is ∙ h) in
+  sends-a-byte : Consistent L → Kind → got .answer .number ≡ 20 → 1 ≤ got .answer .count
+  sends-a-byte times (refusal r step is) h = absurd (no-verdict r step is Complete (sym h))
+  sends-a-byte times (verdict form is) h =
+      let complete = completes (verdict form is) h in
       let pair = demand3 L times (tickList file) .exactly (values (read .bytes)) .0 (record { verdict = complete; bytes = refl }) in
       let one = pair-sends-bytes _ _ _ _ _ (pair .explains .pair) .one in
       subst⁻¹ (λ (j : Judged). 1 ≤ j .answer .count) is (omega (arith, length-values (read .bytes), one))
@@ -163,12 +208,12 @@ module _ (L : Limits) (times : Consistent L) (file bytes ledger : List ℕ) wher
       subst⁻¹ (λ (j : Judged). Holds file (j .answer .tick) (j .answer .step)) is
       (held-by-step file (read .decision .tick) (omega (arith, ticks-of file, tick)))
 
-  all-lines : Mission L file bytes ledger
-  all-lines =
+  all-lines : Consistent L → Mission L file bytes ledger
+  all-lines times =
       let kind = by-form (formOf file) refl in
       record {
-        only-finished-is-20 = finishes kind;
-        no-byte-is-never-20 = sends-a-byte kind;
+        only-finished-is-20 = finishes times kind;
+        no-byte-is-never-20 = sends-a-byte times kind;
         no-steps-are-cut = cuts;
         no-refusal-is-due = (has-verdict, has-form kind);
         refusals-change-nothing = unchanged kind;
@@ -177,7 +222,16 @@ module _ (L : Limits) (times : Consistent L) (file bytes ledger : List ℕ) wher
       }
 
 pub mission : MissionLaw
-mission L times file bytes ledger = all-lines L times file bytes ledger
+mission L times file bytes ledger = all-lines L file bytes ledger times
 
-pub standard-mission : StandardMission
-standard-mission = mission standardLimits standard-consistent
+pub standard-mission : StandardMissionLaw
+standard-mission file bytes ledger =
+    record {
+      plain = mission standardLimits standard-consistent file bytes ledger;
+      command = mission commandLimits (commands-consistent standardLimits standard-consistent) file bytes ledger;
+    }
+
+pub never-both-pass : NeverBothLaw
+never-both-pass L M file b g b′ g′ p c x y =
+    never-both L M (tickList file) p c (completes L file b g (by-form L file b g (formOf file) refl) x)
+    (completes M file b′ g′ (by-form M file b′ g′ (formOf file) refl) y)

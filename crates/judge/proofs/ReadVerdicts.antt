@@ -35,14 +35,12 @@ read-verdict L steps w b g =
 
 -- A recording of good form that was read, with enough room lent.
 pub is-read : (L : Limits) (file b g : List ℕ) (n : ℕ) → formOf file ≡ Good n → byteRoom ≤ length b → ledgerRoom ≤ length g
-    → (K : Limits) (s : State) (b′ g′ : List ℕ) (a : Answer) → K ≡ L → reached s b′ g′ ≡ readInto K (ticksFrom file 0 n) b g
+    → (s : State) (b′ g′ : List ℕ) (a : Answer) → reached s b′ g′ ≡ readInto L (ticksFrom file 0 n) b g
     → a ≡ stateAnswer (stepsFrom file 0 n) s → leaves a b′ g′ ≡ judged L file b g
-is-read L file b g n e hb hg K s b′ g′ a ek er ea =
+is-read L file b g n e hb hg s b′ g′ a er ea =
     let good = good-form file n .0 e in
-    let read : reached s b′ g′ ≡ readInto L (ticksFrom file 0 n) b g =
-    er ∙ ap (λ (M : Limits). readInto M (ticksFrom file 0 n) b g) ek in
     ap (λ (x : Answer). leaves x b′ g′) ea
-    ∙ ap (λ (r : Reached). leaves (stateAnswer (stepsFrom file 0 n) (r .state)) (r .bytes) (r .ledger)) read
+    ∙ ap (λ (r : Reached). leaves (stateAnswer (stepsFrom file 0 n) (r .state)) (r .bytes) (r .ledger)) er
     ∙ read-verdict L (stepsFrom file 0 n) (ticksFrom file 0 n) b g
     ∙ ap (λ (steps : List Step). verdictLeaves steps (outcome L (tickLines steps)) b g) (sym (good-steps file n good))
     ∙ sym (is-verdict L file b g n e hb hg)

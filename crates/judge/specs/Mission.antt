@@ -2,7 +2,8 @@
 use Rattle.answer.specs.Basics.{ℕ, suc, _≤_, _<_, List, _≡_, _↔_}
 use Rattle.answer.specs.{Types.Answer, Numbers.IsVerdict}
 use Rattle.recording.specs.{Layout.headerAt, Ticks.stepsFrom, Ticks.totalTicks}
-use Rattle.transfer.specs.{Types.Limits, Types.End, Demand3.Consistent, Limits.standardLimits}
+use Rattle.transfer.specs.Types.{Entry, Plain, Command, Limits, Phase, End, Finished}
+use Rattle.transfer.specs.{Demand3.Consistent, Limits.standardLimits, Limits.commandLimits}
 use Rattle.reader.specs.{After.stateAfter, States.firstState}
 use Rattle.judge.specs.Demand3.{GoodWithRoom}
 use Rattle.judge.specs.Judged.{Judged, leaves, judged, tickList}
@@ -18,21 +19,26 @@ pub record AtTheEnd (file : List ℕ) (a : Answer) : Type 0 where
   pub tick : a .tick ≡ headerAt file .total
   pub step : a .step ≡ headerAt file .steps
 
+-- Where a recording runs out that is complete: in phase E, and for commands, which have no end mark, in the phase after the finish.
+abbrev pub endOf : Entry → (finish : ℕ) → Phase
+endOf Plain finish = End finish
+endOf Command finish = Finished finish
+
 module _ (L : Limits) (file bytes ledger : List ℕ) where
   -- What the judge gives.
   abbrev pub given : Judged
   given = judged L file bytes ledger
 
-  -- The stream is finished: the recording is of good form, with enough room lent, and runs out in phase E, whose first tick is the
-  -- finish tick.
-  pub record Finished (finish : ℕ) : Type 0 where
+  -- The transfer is finished: the recording is of good form, with enough room lent, and runs out in the entry's last phase, whose first
+  -- tick is the finish tick.
+  pub record IsFinished (finish : ℕ) : Type 0 where
     pub form : GoodWithRoom file bytes ledger
-    pub in-end : stateAfter L firstState (tickList file) .phase ≡ End finish
+    pub in-end : stateAfter L firstState (tickList file) .phase ≡ endOf (L .entry) finish
 
   pub record Mission : Type 0 where
-    -- Nothing but a finished stream is ever 20, and its tick is the finish tick.
-    pub only-finished-is-20 : given .answer .number ≡ 20 → Finished (given .answer .tick)
-    -- A stream with no byte is never 20.
+    -- Nothing but a finished transfer is ever 20, and its tick is the finish tick.
+    pub only-finished-is-20 : given .answer .number ≡ 20 → IsFinished (given .answer .tick)
+    -- A transfer of no byte is never 20.
     pub no-byte-is-never-20 : given .answer .number ≡ 20 → 1 ≤ given .answer .count
     -- A well-formed recording of no steps, with room enough, is 22 at tick 0, step 0, and no place of lent memory changes.
     pub no-steps-are-cut : (good : GoodWithRoom file bytes ledger) → good .steps ≡ 0
@@ -52,6 +58,16 @@ module _ (L : Limits) (file bytes ledger : List ℕ) where
 abbrev pub MissionLaw : Type 0
 MissionLaw = (L : Limits) → Consistent L → (file bytes ledger : List ℕ) → Mission L file bytes ledger
 
--- And so for document 01's own.
-abbrev pub StandardMission : Type 0
-StandardMission = (file bytes ledger : List ℕ) → Mission standardLimits file bytes ledger
+-- And so for document 01's own, of both entries.
+pub record StandardMission (file bytes ledger : List ℕ) : Type 0 where
+  pub plain : Mission standardLimits file bytes ledger
+  pub command : Mission commandLimits file bytes ledger
+
+abbrev pub StandardMissionLaw : Type 0
+StandardMissionLaw = (file bytes ledger : List ℕ) → StandardMission file bytes ledger
+
+-- No recording passes both entries, whatever the times and whatever is lent.
+abbrev pub NeverBothLaw : Type 0
+NeverBothLaw =
+    (L M : Limits) (file bytes ledger bytes′ ledger′ : List ℕ) → L .entry ≡ Plain → M .entry ≡ Command
+    → judged L file bytes ledger .answer .number ≡ 20 → judged M file bytes′ ledger′ .answer .number ≡ 20 → ⊥

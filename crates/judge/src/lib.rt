@@ -5,3 +5,4 @@ mod handed;
 mod reading;
 
 pub use crate::entry::judge;
+pub use crate::entry::judge_command;

@@ -1,19 +1,19 @@
 -- Idle ticks: after a tick that goes on, the same lines keep the phase until its own limit. Assumes nothing.
-use Rattle.answer.specs.Basics.{ℕ, zero, suc, _+_, _-_, _≤_, _<_, Bool, true, false, not, _&&_, _++_, replicate, _≡_, ltb, if_then_else_}
+use Rattle.answer.specs.Basics.{ℕ, zero, suc, _+_, _-_, _≤_, _<_, Bool, true, false, _++_, replicate, _≡_, ltb, if_then_else_}
 use native.Mathlib.Omega.{arith}
 use mathlib.Core.Bool.{false≢true}
-use mathlib.Core.Path.{refl, sym, ap, _∙_}
+use mathlib.Core.Path.{refl, sym, ap, subst⁻¹, _∙_}
 use borrow.Author.Tests.{lt-ltb, le-ltb, ltb-true, ltb-false, eq-eqb}
-use Rattle.transfer.specs.Moves.{isDecided, move}
+use Rattle.transfer.specs.Moves.{Stage, stage, isDecided, released, heed, move}
 use Rattle.transfer.specs.Phases.{below, Move, Go, Hand, Stop, next, same}
-use Rattle.transfer.specs.Types.{Limits, Lines, Phase, Start, FirstHold, Hold, ReadyToSend, ReadyForData, Acknowledgement, Acknowledged}
-use Rattle.transfer.specs.Types.{SetUp, Valid, Open, Carried, End, Decided}
+use Rattle.transfer.specs.Types.{Entry, Plain, Command, Limits, Lines, Phase, Start, FirstHold, Hold, ReadyToSend, ReadyForData, Acknowledgement, Acknowledged}
+use Rattle.transfer.specs.Types.{SetUp, Valid, Open, Carried, End, Finished, Decided}
 use Rattle.reader.specs.{States.follow, States.nextState, After.stateAfter, After.handedIn, After.handedOver}
 use Rattle.reader.specs.Idle.{ticksBelow, Lasts, always, until, lasts, ticksIn, idleTicks, later, Idle, IdleLaw}
 use Rattle.reader.specs.declared.state.State.{State}
 use Rattle.answer.specs.Types.{Attention}
-use Rattle.transfer.proofs.Stages.{undecided, undecided-move}
-use Rattle.transfer.proofs.Rows.{Climbs, stops, goes, hands, climbs, rests, settled}
+use Rattle.transfer.proofs.Stages.{Told, is-running, is-holding, is-end, is-past, is-decided, told, undecided, undecided-move}
+use Rattle.transfer.proofs.Rows.{Climbs, stops, goes, hands, climbs, rests, isPast, settled}
 
 -- The ticks below an offset, counted.
 pub all-below : (n since now most : ℕ) → now + most < since + n → most ≡ ticksBelow n since now most
@@ -100,27 +100,42 @@ kept-row L (Carried end-mark value since) false d now most j e h = absurd (false
 kept-row L (End finish) false false now most j e h = refl
 kept-row L (End finish) false true now most j e h = absurd (false≢true e)
 kept-row L (End finish) true d now most j e h = absurd (false≢true e)
+kept-row L (Finished finish) c d now most j e h = absurd (false≢true e)
 kept-row L (Decided fault) c d now most j e h = absurd (false≢true e)
 
-kept : (L : Limits) (p : Phase) (l : Lines) (now most j : ℕ) → settled p l ≡ true → j < idleTicks L p now most
+-- After the finish any lines keep the phase.
+kept-past : (L : Limits) (p : Phase) (c d : Bool) (now : ℕ) → isPast (stage p) ≡ true → released L now (stage p) c d ≡ Go p
+kept-past L p c d now e = by-stage (told p)
+  where
+    by-stage : Told p → released L now (stage p) c d ≡ Go p
+    by-stage (is-running r) = absurd (false≢true (sym (ap isPast r) ∙ e))
+    by-stage (is-holding byte r) = absurd (false≢true (sym (ap isPast r) ∙ e))
+    by-stage (is-end finish r) = absurd (false≢true (sym (ap (λ (q : Phase). isPast (stage q)) r) ∙ e))
+    by-stage (is-past finish r) = subst⁻¹ (λ (q : Phase). released L now (stage q) c d ≡ Go q) r refl
+    by-stage (is-decided fault r) = absurd (false≢true (sym (ap (λ (q : Phase). isPast (stage q)) r) ∙ e))
+
+kept : (L : Limits) (p : Phase) (l : Lines) (now most j : ℕ) → settled (L .entry) l p ≡ true → j < idleTicks L p now most
     → move L (now + j) p l ≡ Go p
 kept L p l now most j e h =
-    undecided-move L (now + j) p l (undecided p l e) ∙ by-atn (l .atn) (l .clk) (l .«data») e h
+    undecided-move L (now + j) p l (undecided (L .entry) p l e) ∙ heeded (L .entry) (l .atn) (l .clk) (l .«data») e
   where
-    by-atn : (a c d : Bool) → (not a && rests p c d) ≡ true → j < idleTicks L p now most
-        → (if a then Stop Attention else next L (now + j) p c d) ≡ Go p
-    by-atn true c d e h = absurd (false≢true e)
-    by-atn false c d e h = kept-row L p c d now most j e h
+    heeded : (entry : Entry) (a c d : Bool) → heed entry a false (rests p c d) (isPast (stage p)) ≡ true
+        → heed entry a (Stop Attention) (next L (now + j) p c d) (released L (now + j) (stage p) c d) ≡ Go p
+    heeded Plain true c d e = absurd (false≢true e)
+    heeded Plain false c d e = kept-row L p c d now most j e h
+    heeded Command true c d e = kept-row L p c d now most j e h
+    heeded Command false c d e = kept-past L p c d (now + j) e
 
 -- A tick that decided nothing led to a phase that its lines are settled in.
 module _ (L : Limits) (s : State) (l : Lines) where
-  moved : {now : ℕ} {p : Phase} (x : Move) → Climbs now p l x → isDecided (follow s x .phase) ≡ false → settled (follow s x .phase) l ≡ true
+  moved : {now : ℕ} {p : Phase} (x : Move) → Climbs now p (settled (L .entry) l) x → isDecided (follow s x .phase) ≡ false
+      → settled (L .entry) l (follow s x .phase) ≡ true
   unfolding follow
   moved (Stop f) stops u = absurd (false≢true (sym u))
   moved (Go p) (goes m f e) u = e
   moved (Hand b p) (hands m f e held taken) u = e
 
-  led : isDecided (nextState L s l .phase) ≡ false → settled (nextState L s l .phase) l ≡ true
+  pub led : isDecided (nextState L s l .phase) ≡ false → settled (L .entry) l (nextState L s l .phase) ≡ true
   unfolding nextState
   led u = moved _ (climbs L (s .tick) (s .phase) l) u
 

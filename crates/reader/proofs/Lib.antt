@@ -1,6 +1,7 @@
--- Why it holds. The crates above cite TickLaws, IdleLaws and Outcomes.
+-- Why it holds. The crates above cite TickLaws, IdleLaws, Outcomes and Ends.
 pub mod Tests
 pub mod Endings
 pub mod TickLaws
 pub mod IdleLaws
 pub mod Outcomes
+pub mod Ends

@@ -52,22 +52,22 @@ module _ (L : Limits) where
     abbrev beyond : Phase → Outcome
     beyond p = run L (suc (s .tick)) p w
 
-    next-run : (p : Phase) (n : ℕ) (l : Lines) → settled p l ≡ true
+    next-run : (p : Phase) (n : ℕ) (l : Lines) → settled (L .entry) l p ≡ true
         → outcomeFrom L (record { phase = p; tick = s .tick + 1; count = n }) w ≡ beyond p
     next-run p n l e =
-        ih (record { phase = p; tick = s .tick + 1; count = n }) (undecided p l e)
+        ih (record { phase = p; tick = s .tick + 1; count = n }) (undecided (L .entry) p l e)
         ∙ ap (λ (t : ℕ). run L t p w) (add-one (s .tick))
 
-    moved : {l : Lines} (x : Move) → Climbs (s .tick) (s .phase) l x → past s (follow s x) w ≡ onward x (s .tick) beyond
+    moved : (l : Lines) (x : Move) → Climbs (s .tick) (s .phase) (settled (L .entry) l) x → past s (follow s x) w ≡ onward x (s .tick) beyond
     unfolding follow
-    moved (Stop f) stops = stopped f s w
-    moved {l = l} (Go p) (goes a f e) = none-handed s (follow s (Go p)) w refl ∙ next-run p _ l e
-    moved {l = l} (Hand b p) (hands a f e held taken) =
+    moved l (Stop f) stops = stopped f s w
+    moved l (Go p) (goes a f e) = none-handed s (follow s (Go p)) w refl ∙ next-run p _ l e
+    moved l (Hand b p) (hands a f e held taken) =
         one-handed s (follow s (Hand b p)) w (λ z. omega (arith, z)) ∙ ap₂ give (sym held) (next-run p _ l e)
 
     one-more : (l : Lines) → outcomeFrom L s (l ∷ w) ≡ onward (move L (s .tick) (s .phase) l) (s .tick) beyond
     unfolding nextState
-    one-more l = tick-read s (follow s (move L (s .tick) (s .phase) l)) l w refl ∙ moved _ (climbs L (s .tick) (s .phase) l)
+    one-more l = tick-read s (follow s (move L (s .tick) (s .phase) l)) l w refl ∙ moved l _ (climbs L (s .tick) (s .phase) l)
 
   outcome-run : (w : List Lines) → Runs w
   unfolding run stateAfter handedOver

@@ -1,11 +1,11 @@
 -- What a proof searches with where the table goes by a line, a time or the bits left. Assumes nothing.
-use Rattle.answer.specs.Basics.{ℕ, zero, suc, _-_, _^_, _<_, Bool, true, false, _≡_}
+use Rattle.answer.specs.Basics.{ℕ, zero, suc, _+_, _-_, _^_, _<_, Bool, true, false, _≡_, ltb, leb}
 use native.Mathlib.Omega.{arith}
 use mathlib.Core.Path.{refl, sym, ap, subst, _∙_}
-use borrow.Author.Tests.{eq-eqb, ne-eqb}
-use Rattle.transfer.specs.{Types.Lines, Types.Limits, Types.Phase, Moves.heldByte, Moves.decisionOf}
+use borrow.Author.Tests.{eq-eqb, ne-eqb, lt-ltb, le-ltb, leb-true, leb-false}
+use Rattle.transfer.specs.{Types.Entry, Types.Lines, Types.Limits, Types.Byte, Types.Phase, Moves.finishing, Moves.noByte, Moves.heldByte, Moves.decisionOf}
 use Rattle.transfer.specs.Phases.{below, upTo, Move, same, afterBit}
-use Rattle.reader.specs.States.{readIn}
+use Rattle.reader.specs.States.{follow, readIn, releasedIn, finishedIn, heededIn}
 use Rattle.reader.specs.declared.state.State.{State}
 
 pub clk-on : (l : Lines) → l .clk ≡ true → l .clk ≡ true
@@ -50,6 +50,35 @@ more-bits (suc n) x f e = ap f (omega arith)
 -- An arm was told the phase that the state is in: what the arm returns by its rows is what the state's rows give.
 pub told : (L : Limits) (s : State) (l : Lines) {p q : Phase} {r : State} → p ≡ q → r ≡ readIn L s q l → r ≡ readIn L s p l
 told L s l e f = f ∙ sym (ap (λ (p : Phase). readIn L s p l) e)
+
+-- The same of a tick with ATN released, and of what an entry makes of ATN.
+pub released-told : (L : Limits) (s : State) (l : Lines) {p q : Phase} {r : State} → p ≡ q → r ≡ releasedIn L s q l → r ≡ releasedIn L s p l
+released-told L s l e f = f ∙ sym (ap (λ (p : Phase). releasedIn L s p l) e)
+
+pub heeded-told : (L : Limits) (s : State) (l : Lines) {entry told : Entry} {r : State} → entry ≡ told → r ≡ heededIn L s told l
+    → r ≡ heededIn L s entry l
+heeded-told L s l e f = f ∙ sym (ap (λ (n : Entry). heededIn L s n l) e)
+
+-- Whether it is too soon for the finish was found out by a call; the state does not keep which byte the finish hands over.
+pub finished-by : (s : State) (l : Lines) (byte : Byte) {t u : Bool} {r : State} → t ≡ u → r ≡ finishedIn s t l
+    → r ≡ follow s (finishing u (s .tick) byte (l .clk) (l .«data»))
+unfolding finishing follow
+finished-by s l byte {u = u} e f = f ∙ ap (λ (b : Bool). finishedIn s b l) e ∙ any-byte u (l .clk) (l .«data»)
+  where
+    any-byte : (u c d : Bool) → follow s (finishing u (s .tick) noByte c d) ≡ follow s (finishing u (s .tick) byte c d)
+    any-byte false true true = refl
+    any-byte false true false = refl
+    any-byte false false d = refl
+    any-byte true c d = refl
+
+-- In a carried handover the take is at offset 1.
+pub from-offset-1 : (n since now : ℕ) → upTo n since now ≡ below n (since + 1) now
+unfolding upTo below
+from-offset-1 n since now = by-test (leb now (since + n)) refl
+  where
+    by-test : (t : Bool) → leb now (since + n) ≡ t → t ≡ ltb now (since + 1 + n)
+    by-test true e = sym (lt-ltb now (since + 1 + n) (omega (arith, leb-true now (since + n) e)))
+    by-test false e = sym (le-ltb now (since + 1 + n) (omega (arith, leb-false now (since + n) e)))
 
 pub decision-told : (tick : ℕ) {p q : Phase} → p ≡ q → decisionOf q tick ≡ decisionOf p tick
 decision-told tick e = sym (ap (λ (p : Phase). decisionOf p tick) e)

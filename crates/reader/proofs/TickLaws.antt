@@ -9,7 +9,7 @@ use Rattle.transfer.specs.Moves.{hasFallen, isDecided, heldByte, move}
 use Rattle.transfer.specs.Types.{Limits, Lines, Byte, Phase}
 use Rattle.reader.specs.{States.follow, States.nextState, After.stateAfter, After.handedIn, After.handedOver}
 use Rattle.transfer.proofs.Rows.{Climbs, stops, goes, hands, climbs}
-use Rattle.transfer.proofs.Stages.{Told, is-running, is-end, is-decided, told}
+use Rattle.transfer.proofs.Stages.{Told, is-running, is-holding, is-end, is-past, is-decided, told}
 use Rattle.reader.specs.declared.state.State.{State}
 
 -- A tick that is read moves the state's tick on by one at most, and its count too. A byte that it hands over was taken by then.
@@ -24,7 +24,7 @@ goes-on : (s t : State) → t .tick ≤ s .tick + 1 → t .count ≡ s .count �
 goes-on s t h e =
     record { tick-most = h; count-least = omega arith; count-most = omega arith; taken = λ n. absurd (n e) }
 
-one-move : (s : State) {l : Lines} (x : Move) → Climbs (s .tick) (s .phase) l x → OneTick s (follow s x)
+one-move : (s : State) {stays : Phase → Bool} (x : Move) → Climbs (s .tick) (s .phase) stays x → OneTick s (follow s x)
 unfolding follow
 one-move s (Go p) (goes m f e) = goes-on s _ (omega arith) refl
 one-move s (Hand b p) (hands m f e held taken) =
@@ -65,7 +65,9 @@ no-change L s l u = by-stage (told (s .phase))
 
     by-stage : Told (s .phase) → nextState L s l ≡ s
     by-stage (is-running r) = absurd (true≢false (sym u ∙ ap hasFallen r))
+    by-stage (is-holding byte r) = absurd (true≢false (sym u ∙ ap hasFallen r))
     by-stage (is-end finish r) = absurd (true≢false (sym u ∙ ap isDecided r))
+    by-stage (is-past finish r) = absurd (true≢false (sym u ∙ ap isDecided r))
     by-stage (is-decided fault r) = ap (λ (p : Phase). nextState L (in-phase p) l) r ∙ sym (ap in-phase r)
 
 -- "Stops for good": no tick changes a decided state or hands a byte over, so a loop may leave at the deciding tick.

@@ -3,7 +3,7 @@
 use Rattle.answer.specs.Basics.{ℕ, _+_, _-_, _≤_, false, List, _++_, replicate, _≡_, ltb, if_then_else_}
 use Rattle.transfer.specs.Moves.{isDecided}
 use Rattle.transfer.specs.Types.{Limits, Lines, Phase, Start, FirstHold, Hold, ReadyToSend, ReadyForData, Acknowledgement, Acknowledged}
-use Rattle.transfer.specs.Types.{SetUp, Valid, Open, Carried, End, Decided}
+use Rattle.transfer.specs.Types.{SetUp, Valid, Open, Carried, End, Finished, Decided}
 use Rattle.reader.specs.{States.nextState, After.stateAfter, After.handedOver}
 use Rattle.reader.specs.declared.state.State.{State}
 
@@ -29,6 +29,7 @@ lasts L (Valid end-mark value bit since bits-left) = until (L .«valid_most») s
 lasts L (Open end-mark value since let-go) = until (L .«take_latest») since
 lasts L (Carried end-mark value since) = always
 lasts L (End finish) = always
+lasts L (Finished finish) = always
 lasts L (Decided fault) = always
 
 -- How many of `most` further ticks are idle, `now` being the first and their lines those of the tick before it.

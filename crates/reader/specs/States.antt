@@ -1,8 +1,9 @@
 -- "Reading goes from state to state, one tick after another, and stops for good at the deciding tick."
-use Rattle.answer.specs.Basics.{_+_, _^_, _<_}
-use Rattle.transfer.specs.Moves.{move}
+use Rattle.answer.specs.Basics.{_+_, _^_, _<_, Bool}
+use Rattle.answer.specs.Types.{Attention}
+use Rattle.transfer.specs.Moves.{stage, noByte, finishing, released, heed, move}
 use Rattle.transfer.specs.Phases.{Move, Go, Hand, Stop, next}
-use Rattle.transfer.specs.Types.{Limits, Lines, Phase, Start, Decided}
+use Rattle.transfer.specs.Types.{Entry, Limits, Lines, Phase, Start, Decided}
 use Rattle.reader.specs.declared.state.State.{State}
 
 -- Before tick 0.
@@ -19,10 +20,25 @@ follow s (Go phase) = record { phase = phase; tick = s .tick + 1; count = s .cou
 follow s (Hand byte phase) = handedOn s phase
 follow s (Stop fault) = record { phase = Decided fault; tick = s .tick; count = s .count }
 
--- The state after a tick with ATN released that is read by the rows of a phase. The phase stands beside the state, so that the
--- method of one phase can promise its rows.
+-- The state after a tick that is read by the rows of a phase. The phase stands beside the state, so that the method of one phase can
+-- promise its rows.
 abbrev pub readIn : Limits → State → Phase → Lines → State
 readIn L s phase lines = follow s (next L (s .tick) phase (lines .clk) (lines .«data»))
+
+-- The state after a tick of commands with ATN released; and after one that may be the finish: which byte it hands over, the state does
+-- not keep.
+abbrev pub releasedIn : Limits → State → Phase → Lines → State
+releasedIn L s phase lines = follow s (released L (s .tick) (stage phase) (lines .clk) (lines .«data»))
+
+abbrev pub finishedIn : State → (too-soon : Bool) → Lines → State
+finishedIn s too-soon lines = follow s (finishing too-soon (s .tick) noByte (lines .clk) (lines .«data»))
+
+-- The state after a tick of an entry, where no verdict has fallen.
+abbrev pub heededIn : Limits → State → Entry → Lines → State
+heededIn L s entry lines =
+    follow s
+    (heed entry (lines .atn) (Stop Attention) (next L (s .tick) (s .phase) (lines .clk) (lines .«data»))
+    (released L (s .tick) (stage (s .phase)) (lines .clk) (lines .«data»)))
 
 -- One tick.
 unfoldable pub nextState : Limits → State → Lines → State

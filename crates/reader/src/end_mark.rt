@@ -1,12 +1,24 @@
 // Phases D ready for data, F acknowledgement and G: whether the byte to come has the end mark.
 ghost use Rattle.answer.specs.Basics.{_≡_};
+ghost use Rattle.transfer.specs.Phases.{longSilence};
 ghost use Rattle.reader.specs.States.{readIn, Countable};
 use crate::offset::below;
 use crate::state::State;
 use answer::Fault;
+use transfer::Entry;
 use transfer::Limits;
 use transfer::Lines;
 use transfer::Phase;
+
+// D lasted too long.
+fn long_silence(entry: Entry) -> Fault
+    ensures { λ r. ⌜ r ≡ longSilence entry ⌝ }
+{
+    match entry {
+        Entry::Plain => Fault::EndMarkNotAcknowledged,
+        Entry::Command => Fault::EndMarkUnderAttention,
+    }
+}
 
 impl State {
     // D
@@ -30,12 +42,8 @@ impl State {
             return self.go_from(limits.end_mark, since, acknowledgement, Fault::OutOfTurn);
         }
         let stay = Phase::ReadyForData(some_handed, since);
-        self.go_below(
-            limits.end_mark_latest,
-            since,
-            stay,
-            Fault::EndMarkNotAcknowledged,
-        )
+        let entry = limits.entry;
+        self.go_below(limits.end_mark_latest, since, stay, long_silence(entry))
     }
 
     // F

@@ -42,6 +42,7 @@ fn idle_ticks(phase: Phase, limits: Limits, now: u32, most: u16) -> u16
         Phase::Open(_, _, since, _) => ticks_below(limits.take_latest, since, now, most),
         Phase::Carried(..) => most,
         Phase::End(..) => most,
+        Phase::Finished(..) => most,
         Phase::Decided(..) => most,
     }
 }

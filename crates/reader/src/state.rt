@@ -8,6 +8,7 @@ use crate::offset::up_to;
 use answer::Fault;
 use transfer::Byte;
 use transfer::Decision;
+use transfer::Entry;
 use transfer::Limits;
 use transfer::Lines;
 use transfer::Phase;
@@ -98,8 +99,8 @@ impl State {
         self.stop(fault)
     }
 
-    // The rows of the phase that the state is in, for a tick with ATN released.
-    fn rows(self, limits: Limits, lines: Lines) -> State
+    // The rows of the phase that the state is in.
+    pub(crate) fn rows(self, limits: Limits, lines: Lines) -> State
         requires { ⌜ Countable self ⌝ }
         ensures { λ r. ⌜ r ≡ readIn limits self (self .phase) lines ⌝ }
     {
@@ -135,11 +136,12 @@ impl State {
                 self.carried(limits, end_mark, value, since, lines)
             }
             Phase::End(finish) => self.end(limits, finish, lines),
+            Phase::Finished(..) => self.stop(Fault::MovedAfterEnd),
             Phase::Decided(fault) => self.stop(fault),
         }
     }
 
-    // One tick. A verdict stands for good; then ATN comes before anything else.
+    // One tick. A verdict stands for good; then comes what ATN means.
     pub fn next(self, limits: Limits, lines: Lines) -> State
         requires { ⌜ Countable self ⌝ }
         ensures { λ r. ⌜ r ≡ nextState limits self lines ⌝ }
@@ -147,10 +149,11 @@ impl State {
         if self.is_decided() {
             return self;
         }
-        if lines.atn {
-            return self.stop(Fault::Attention);
+        let entry = limits.entry;
+        match entry {
+            Entry::Plain => self.plain(limits, lines),
+            Entry::Command => self.command(limits, lines),
         }
-        self.rows(limits, lines)
     }
 
     // A verdict has fallen.
@@ -196,6 +199,9 @@ impl State {
         let phase = self.phase;
         let tick = self.tick;
         if let Phase::End(finish) = phase {
+            return Decision::complete(finish);
+        }
+        if let Phase::Finished(finish) = phase {
             return Decision::complete(finish);
         }
         if let Phase::Decided(fault) = phase {

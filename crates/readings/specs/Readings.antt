@@ -1,8 +1,8 @@
--- Where two rows of document 01 meet: tick lists whose outcomes show how it is read there, and on which tick each time falls.
+-- Where two rows of document 01, or of #101, meet: tick lists whose outcomes show how they are read there, and on which tick each time falls.
 -- docs/DECISIONS.md gives the reasons.
 use Rattle.answer.specs.Basics.{ℕ, Bool, true, _&&_, List, [], _∷_, _++_, length, _≡_, eqb}
-use Rattle.transfer.specs.{Limits.standardLimits, Outcome.outcome}
-use Rattle.transfer.specs.Spans.{Span, ticks, _∶_, opening, bits, till41, s1}
+use Rattle.transfer.specs.{Types.Limits, Limits.standardLimits, Limits.commandLimits, Outcome.outcome}
+use Rattle.transfer.specs.Spans.{Span, ticks, _∶_, opening, bits, till41, s1, attended, listen}
 use Rattle.answer.specs.Numbers.{verdictNumber}
 
 -- The byte 0x80, from tick 0 to the CLK pull after bit 8, which is tick 1,630.
@@ -92,20 +92,81 @@ readings =
     ∷ reads (s1 ++ (1 ∶ 2 ∷ [])) 37 2010 1
     ∷ reads (s1 ++ (1 ∶ 4 ∷ [])) 37 2010 1
     ∷ reads (s1 ++ (1 ∶ 8 ∷ [])) 20 1910 1
+    -- Commands handed to the entry for data.
+    ∷ reads (listen 200 ++ (1 ∶ 6 ∷ [])) 23 0 0
     -- A verdict stands: ATN pulled later changes nothing.
     ∷ reads (1 ∶ 0 ∷ 1 ∶ 1 ∷ []) 25 0 0
     -- No ticks at all.
     ∷ reads [] 22 0 0
     ∷ []
 
-abbrev pub holds : Reading → Bool
-holds (reads spans number tick count) =
-    let o = outcome standardLimits (ticks spans) in
+-- A command byte 0x80 with ATN pulled, from tick 0 to the CLK pull after bit 8, which is tick 1,350; then CLK and DATA pulled for some ticks.
+abbrev pub carried80 : (hold : ℕ) → List Span
+carried80 hold = attended (200 ∶ 6 ∷ 50 ∶ 4 ∷ 60 ∶ 0 ∷ (bits (0 ∷ 0 ∷ 0 ∷ 0 ∷ 0 ∷ 0 ∷ 0 ∷ 4 ∷ []) ++ (hold ∶ 6 ∷ [])))
+
+-- Up to D of a first command byte, and `gap` ticks of it.
+abbrev pub silent : (gap : ℕ) → List Span
+silent gap = attended (200 ∶ 6 ∷ 50 ∶ 4 ∷ gap ∶ 0 ∷ [])
+
+-- The same of commands. `listen` has its second take at tick 2,760.
+abbrev pub commandReadings : List Reading
+commandReadings =
+    -- LISTEN 8, secondary 15. The finish is 100 or more ticks after the take; what CLK and DATA show after it does not matter.
+    reads (listen 200 ++ (1 ∶ 6 ∷ [])) 20 2960 2
+    ∷ reads (listen 100 ++ (1 ∶ 6 ∷ 5 ∶ 0 ∷ 5 ∶ 4 ∷ 5 ∶ 2 ∷ [])) 20 2860 2
+    ∷ reads (listen 99 ++ (1 ∶ 6 ∷ [])) 39 2859 1
+    -- Without a finish it is cut, and the last byte is not handed over.
+    ∷ reads (listen 200) 22 2960 1
+    -- The finish must show (1,1): each of the others is 39, in time or not; and in the take's own tick.
+    ∷ reads (listen 200 ++ (1 ∶ 2 ∷ [])) 39 2960 1
+    ∷ reads (listen 200 ++ (1 ∶ 4 ∷ [])) 39 2960 1
+    ∷ reads (listen 200 ++ (1 ∶ 0 ∷ [])) 39 2960 1
+    ∷ reads (listen 99 ++ (1 ∶ 4 ∷ [])) 39 2859 1
+    ∷ reads (listen 0 ++ (1 ∶ 6 ∷ [])) 39 2760 1
+    -- In a carried handover the take is at offset 1: the finish comes at offset 101, not at 100, and must show (1,1).
+    ∷ reads (carried80 100 ++ (1 ∶ 6 ∷ [])) 39 1450 0
+    ∷ reads (carried80 101 ++ (1 ∶ 6 ∷ [])) 20 1451 1
+    ∷ reads (carried80 101 ++ (1 ∶ 2 ∷ [])) 39 1451 0
+    ∷ reads (carried80 101 ++ (1 ∶ 4 ∷ [])) 39 1451 0
+    -- After the finish a pull of ATN is 37, whatever the others show, and the last byte is counted.
+    ∷ reads (listen 200 ++ (1 ∶ 6 ∷ 1 ∶ 7 ∷ [])) 37 2961 2
+    ∷ reads (listen 200 ++ (1 ∶ 6 ∷ 9 ∶ 0 ∷ 1 ∶ 1 ∷ [])) 37 2970 2
+    -- ATN released elsewhere is 39, before the phase's rows: in A, where tick 0 would be 25 and where 256 would be 24; in B before any byte; in
+    -- C; in D at 199, where it would be 38; in a bit, where it would be 33; in an open handover, where it would be 35.
+    ∷ reads (1 ∶ 0 ∷ []) 39 0 0
+    ∷ reads (attended (256 ∶ 2 ∷ []) ++ (1 ∶ 2 ∷ [])) 39 256 0
+    ∷ reads (attended (200 ∶ 6 ∷ []) ++ (1 ∶ 6 ∷ [])) 39 200 0
+    ∷ reads (attended (200 ∶ 6 ∷ 50 ∶ 4 ∷ []) ++ (1 ∶ 6 ∷ [])) 39 250 0
+    ∷ reads (silent 199 ++ (1 ∶ 0 ∷ [])) 39 449 0
+    ∷ reads (attended (200 ∶ 6 ∷ 50 ∶ 4 ∷ 60 ∶ 0 ∷ 70 ∶ 6 ∷ []) ++ (1 ∶ 0 ∷ [])) 39 380 0
+    ∷ reads (carried80 50 ++ (attended (950 ∶ 2 ∷ []) ++ (1 ∶ 2 ∷ []))) 39 2350 0
+    -- D: at offset 199 (0,0) is 38, CLK pulled begins the bits, (0,1) is 26; so too after a byte.
+    ∷ reads (silent 199) 22 449 0
+    ∷ reads (silent 200) 38 449 0
+    ∷ reads (silent 199 ++ attended (1 ∶ 2 ∷ [])) 22 450 0
+    ∷ reads (silent 199 ++ attended (1 ∶ 4 ∷ [])) 26 449 0
+    ∷ reads (listen 200 ++ attended (50 ∶ 4 ∷ 200 ∶ 0 ∷ [])) 38 3209 2
+    -- The other rows are a data transfer's: no receiver, a bad start, out of turn, too short a bit, a late take, a hurried sender.
+    ∷ reads (attended (257 ∶ 2 ∷ [])) 24 256 0
+    ∷ reads (attended (1 ∶ 0 ∷ [])) 25 0 0
+    ∷ reads (attended (1 ∶ 6 ∷ 1 ∶ 2 ∷ [])) 26 1 0
+    ∷ reads (attended (200 ∶ 6 ∷ 50 ∶ 4 ∷ 60 ∶ 0 ∷ 70 ∶ 6 ∷ 19 ∶ 4 ∷ 1 ∶ 6 ∷ [])) 32 399 0
+    ∷ reads (carried80 50 ++ attended (951 ∶ 2 ∷ [])) 35 2350 0
+    ∷ reads (listen 99 ++ attended (1 ∶ 4 ∷ [])) 36 2859 1
+    -- A data transfer handed to the command entry, and no ticks at all.
+    ∷ reads s1 39 0 0
+    ∷ reads [] 22 0 0
+    ∷ []
+
+abbrev pub holds : Limits → Reading → Bool
+holds L (reads spans number tick count) =
+    let o = outcome L (ticks spans) in
     eqb (verdictNumber (o .decision .verdict)) number && (eqb (o .decision .tick) tick && eqb (length (o .bytes)) count)
 
-abbrev pub allHold : List Reading → Bool
-allHold [] = true
-allHold (r ∷ rs) = holds r && allHold rs
+abbrev pub allHold : Limits → List Reading → Bool
+allHold L [] = true
+allHold L (r ∷ rs) = holds L r && allHold L rs
 
-abbrev pub ReadingsHold : Type 0
-ReadingsHold = allHold readings ≡ true
+pub record ReadingsHold : Type 0 where
+  pub plain : allHold standardLimits readings ≡ true
+  pub command : allHold commandLimits commandReadings ≡ true

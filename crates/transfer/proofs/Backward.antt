@@ -3,19 +3,21 @@ use Rattle.answer.specs.Basics.{ℕ, zero, suc, _+_, _≤_, _<_, Bool, true, fa
 use Rattle.answer.specs.Basics.{if_then_else_}
 use native.Mathlib.Omega.{arith}
 use mathlib.Core.Logic.{inl, inr}
-use mathlib.Core.Path.{refl, ap, _∙_, subst⁻¹}
+use mathlib.Core.Path.{refl, ap, _∙_, subst, subst⁻¹}
 use borrow.Author.Tests.{ltb-true, ltb-false, leb-true, leb-false}
 use Rattle.transfer.specs.{Rules.PlanRules, Demand3.Consistent}
 use Rattle.transfer.specs.Phases.{below, upTo, Move, Go, Stop, next, same, withBit, handover, afterBit}
-use Rattle.transfer.specs.Moves.{cutAt, Stage, Running, Ended, Fallen, stage, unlessFallen, move, decisionIn}
+use Rattle.transfer.specs.Moves.{cutAt, Stage, Running, Holding, Ended, Past, Fallen, stage, finishing, released, heed, unlessFallen, move}
+use Rattle.transfer.specs.Moves.{decisionIn}
 use Rattle.transfer.specs.Outcome.{Outcome, decided, ended, give, onward, run}
-use Rattle.transfer.specs.Parties.{Pulls, nobody, held, clock, clockHeld, sets, offers, Plan, track, sendingBytes, planBytes}
-use Rattle.transfer.specs.Types.{Limits, Lines, Byte, Phase, Start, FirstHold, Hold, ReadyToSend, ReadyForData, Acknowledgement}
-use Rattle.transfer.specs.Types.{Acknowledged, SetUp, Valid, Open, Carried, End, Decided}
+use Rattle.transfer.specs.Parties.{Pulls, underWay, nobody, held, clock, clockHeld, sets, offers, Free, finishTick, freeTick, Plan, track}
+use Rattle.transfer.specs.Parties.{sendingBytes, planBytes}
+use Rattle.transfer.specs.Types.{Entry, Plain, Command, Limits, Lines, Byte, Phase, Start, FirstHold, Hold, ReadyToSend, ReadyForData, Acknowledgement}
+use Rattle.transfer.specs.Types.{Acknowledged, SetUp, Valid, Open, Carried, End, Finished, Decided}
 use Rattle.answer.specs.Types.{Fault, Attention, ClockStall, Verdict, Complete, Cut, Broken}
 use Rattle.transfer.proofs.{Rows.lines, Forward.shows, Plans.sends}
-use Rattle.transfer.proofs.Stages.{Told, is-running, is-end, is-decided, told, released-move}
-use Rattle.transfer.proofs.Shapes.{clockKept, leaves, stay, one, many, Tidy, opens, carries, Shape}
+use Rattle.transfer.proofs.Stages.{Told, is-running, is-holding, is-end, is-past, is-decided, told}
+use Rattle.transfer.proofs.Shapes.{clockKept, leaves, stay, one, many, Tidy, Frees, releases, finishes, opens, carries, Shape}
 
 abbrev IsComplete : Verdict → Type 0
 IsComplete Complete = Unit {0}
@@ -78,26 +80,27 @@ module _ (L : Limits) where
   InTime (Open end-mark value since let-go) now = now ≤ since + L .«take_latest»
   InTime (Carried end-mark value since) now = Unit {0}
   InTime (End finish) now = Unit {0}
+  InTime (Finished finish) now = Unit {0}
   InTime (Decided fault) now = Unit {0}
 
   -- The ticks from a phase on are given by tracks of the phase's shape.
   record From (p : Phase) (now : ℕ) (w : List Lines) (l : List Byte) : Type 0 where
     js : List Pulls
-    gives : w ≡ map shows js
+    gives : w ≡ map (shows L) js
     shape : Shape L p now js l
 
   -- One tick j, by which a phase leads to another or stays, or hands a byte over.
   module _ (j : Pulls) {p q : Phase} {now : ℕ} {w : List Lines} where
     comes-first : {l l′ : List Byte} → ((js : List Pulls) → Shape L q (suc now) js l → Shape L p now (j ∷ js) l′)
-        → From q (suc now) w l → From p now (shows j ∷ w) l′
-    comes-first f r = record { js = j ∷ r .js; gives = ap (λ x. shows j ∷ x) (r .gives); shape = f (r .js) (r .shape) }
+        → From q (suc now) w l → From p now (shows L j ∷ w) l′
+    comes-first f r = record { js = j ∷ r .js; gives = ap (λ x. shows L j ∷ x) (r .gives); shape = f (r .js) (r .shape) }
 
     goes : {o : Outcome} → ((js : List Pulls) (l : List Byte) → Shape L q (suc now) js l → Shape L p now (j ∷ js) l)
-        → Sound (From q (suc now) w) o → Sound (From p now (shows j ∷ w)) o
+        → Sound (From q (suc now) w) o → Sound (From p now (shows L j ∷ w)) o
     goes f s = record { prove = λ h. comes-first (λ js. f js _) (s .prove h) }
 
     hands : {o : Outcome} (b : Byte) → ((js : List Pulls) (l : List Byte) → Shape L q (suc now) js l → Shape L p now (j ∷ js) (b ∷ l))
-        → Sound (From q (suc now) w) o → Sound (From p now (shows j ∷ w)) (give b o)
+        → Sound (From q (suc now) w) o → Sound (From p now (shows L j ∷ w)) (give b o)
     hands b f s = record { prove = λ h. comes-first (λ js. f js _) (s .prove h) }
 
   abbrev Holds : List Lines → Type 0
@@ -106,13 +109,13 @@ module _ (L : Limits) where
   abbrev Row : Phase → (clk dat : Bool) → Type 0
   Row p c d =
       (now : ℕ) (w : List Lines) → Holds w → InTime p now
-      → Sound (From p now (lines c d ∷ w)) (onward (next L now p c d) now (λ (q : Phase). run L (suc now) q w))
+      → Sound (From p now (lines (underWay (L .entry)) c d ∷ w)) (onward (next L now p c d) now (λ (q : Phase). run L (suc now) q w))
 
   row-start : (c d : Bool) → Row Start c d
   unfolding next
   row-start false d now w ih i = at (eqb now 0)
     where
-      at : (t : Bool) → Sound (From Start now (lines false d ∷ w)) (onward (if t then Stop Fault.BadStart
+      at : (t : Bool) → Sound (From Start now (lines (underWay (L .entry)) false d ∷ w)) (onward (if t then Stop Fault.BadStart
           else Stop Fault.OutOfTurn) now (λ (q : Phase). run L (suc now) q w))
       at true = dead _ _ _
       at false = dead _ _ _
@@ -132,7 +135,7 @@ module _ (L : Limits) where
   row-hold end-mark value t g false true now w ih i =
       unless-below _ _ _ _ _ _ _
       (λ late. hands held (record { value = value; «let_go» = g; take = t })
-      (λ js l h. leaves (record { late = late; others = l; hands = refl; after = one h }))
+      (λ js l h. leaves (record { late = late; others = l; hands = refl; after = releases (one h) }))
       (ih (suc now) (ReadyToSend true end-mark) tt))
   row-hold end-mark value t g true false now w ih i = dead _ _ _
   row-hold end-mark value t g false false now w ih i = dead _ _ _
@@ -154,6 +157,62 @@ module _ (L : Limits) where
       goes nobody (λ js l h. record { count = suc (h .count); is = ap (λ x. nobody ∷ x) (h .is); bytes = h .bytes })
       (ih (suc now) (End f) tt)
 
+  -- A tick of commands with ATN released: the finish, or one after it.
+  abbrev Released : Phase → (clk dat : Bool) → Type 0
+  Released p c d =
+      (now : ℕ) (w : List Lines) → Holds w
+      → Sound (From p now (lines false c d ∷ w)) (onward (released L now (stage p) c d) now (λ (q : Phase). run L (suc now) q w))
+
+  module _ (command : L .entry ≡ Command) where
+    -- The finish, in a phase that holds the byte b.
+    finishes-in : (p : Phase) (b : Byte) (now : ℕ) (w : List Lines) → Holds w
+        → (b .take + L .«between_bytes» ≤ now → (js : List Pulls) (l : List Byte) → Frees L (suc now) js l
+        → Shape L p now (finishTick ∷ js) (b ∷ l))
+        → (c d : Bool) → Sound (From p now (lines false c d ∷ w))
+        (onward (finishing (below (L .«between_bytes») (b .take) now) now b c d) now (λ (q : Phase). run L (suc now) q w))
+    unfolding finishing below
+    finishes-in p b now w ih shape c d = by-test (ltb now (b .take + L .«between_bytes»)) refl c d
+      where
+        by-test : (t : Bool) → ltb now (b .take + L .«between_bytes») ≡ t → (c d : Bool)
+            → Sound (From p now (lines false c d ∷ w)) (onward (finishing t now b c d) now (λ (q : Phase). run L (suc now) q w))
+        by-test false e true true =
+            hands finishTick b (shape (ltb-false now (b .take + L .«between_bytes») e)) (ih (suc now) (Finished now) tt)
+        by-test false e true false = dead _ _ _
+        by-test false e false d = dead _ _ _
+        by-test true e c d = dead _ _ _
+
+    -- Any DATA pull after the finish can be the receiver's.
+    receives : (x : Free) (f : ℕ) → x .sender ≡ false → (now : ℕ) (w : List Lines) → Holds w
+        → Sound (From (Finished f) now (shows L (freeTick x) ∷ w)) (run L (suc now) (Finished f) w)
+    receives x f off now w ih =
+        goes (freeTick x)
+        (λ js l h. record { after = x ∷ h .after; tidy = (off, h .tidy); is = ap (λ y. freeTick x ∷ y) (h .is); bytes = h .bytes })
+        (ih (suc now) (Finished f) tt)
+
+    released-past : (f : ℕ) (c d : Bool) → Released (Finished f) c d
+    released-past f c true now w ih = receives (record { clk = c; sender = false; receiver = true }) f refl now w ih
+    released-past f c false now w ih = receives (record { clk = c; sender = false; receiver = false }) f refl now w ih
+
+    released-in : (p : Phase) (c d : Bool) → Released p c d
+    released-in (Hold end-mark value t g) c d = λ now w ih.
+        finishes-in (Hold end-mark value t g) _ now w ih
+        (λ late js l h. leaves (record { late = late; others = l; hands = refl; after = finishes command (one h) })) c d
+    released-in (Carried end-mark value s) c d = λ now w ih.
+        finishes-in (Carried end-mark value s) _ now w ih
+        (λ late js l h. inr (leaves (record { late = omega arith; others = l; hands = refl; after = finishes command (one h) }))) c d
+    released-in (Finished f) c d = released-past f c d
+    released-in Start c d = λ now w ih. dead _ _ _
+    released-in FirstHold c d = λ now w ih. dead _ _ _
+    released-in (ReadyToSend some-handed ended) c d = λ now w ih. dead _ _ _
+    released-in (ReadyForData some-handed s) c d = λ now w ih. dead _ _ _
+    released-in (Acknowledgement some-handed s ready-tick) c d = λ now w ih. dead _ _ _
+    released-in (Acknowledged some-handed s ready-tick) c d = λ now w ih. dead _ _ _
+    released-in (SetUp end-mark value b s bits-left) c d = λ now w ih. dead _ _ _
+    released-in (Valid end-mark value b s bits-left) c d = λ now w ih. dead _ _ _
+    released-in (Open end-mark value s l) c d = λ now w ih. dead _ _ _
+    released-in (End f) c d = λ now w ih. dead _ _ _
+    released-in (Decided f) c d = λ now w ih. dead _ _ _
+
   row-open : (end-mark : Bool) (value s l : ℕ) (c d : Bool) → Row (Open end-mark value s l) c d
   unfolding next
   row-open end-mark value s l false d now w ih i = dead _ _ _
@@ -168,12 +227,12 @@ module _ (L : Limits) where
     row-carried end-mark value s false false now w ih i = dead _ _ _
     row-carried end-mark value s true true now w ih i = record { prove = λ h. on _ (ih (suc now) (Carried end-mark value s) tt .prove h) }
       where
-        by-shape : (l : List Byte) (js : List Pulls) → w ≡ map shows js → Shape L (Carried end-mark value s) (suc now) js l
-            → From (Carried end-mark value s) now (lines true true ∷ w) l
-        by-shape l js e (inl h) = record { js = clockKept ∷ js; gives = ap (λ x. lines true true ∷ x) e; shape = inl (stay h) }
-        by-shape l js e (inr h) = record { js = clockHeld ∷ js; gives = ap (λ x. lines true true ∷ x) e; shape = inr (stay h) }
+        by-shape : (l : List Byte) (js : List Pulls) → w ≡ map (shows L) js → Shape L (Carried end-mark value s) (suc now) js l
+            → From (Carried end-mark value s) now (lines (underWay (L .entry)) true true ∷ w) l
+        by-shape l js e (inl h) = record { js = clockKept ∷ js; gives = ap (λ x. lines (underWay (L .entry)) true true ∷ x) e; shape = inl (stay h) }
+        by-shape l js e (inr h) = record { js = clockHeld ∷ js; gives = ap (λ x. lines (underWay (L .entry)) true true ∷ x) e; shape = inr (stay h) }
 
-        on : (l : List Byte) → From (Carried end-mark value s) (suc now) w l → From (Carried end-mark value s) now (lines true true ∷ w) l
+        on : (l : List Byte) → From (Carried end-mark value s) (suc now) w l → From (Carried end-mark value s) now (lines (underWay (L .entry)) true true ∷ w) l
         on l r = by-shape l (r .js) (r .gives) (r .shape)
     row-carried end-mark value s true false now w ih i =
         if-upTo _ _ _ _ _ _ _
@@ -181,7 +240,7 @@ module _ (L : Limits) where
     row-carried end-mark value s false true now w ih i =
         unless-upTo _ _ _ _ _ _ _
         (λ late. hands held (record { value = value; «let_go» = s + 1; take = s + 1 })
-        (λ js l h. inr (leaves (record { late = late; others = l; hands = refl; after = one h })))
+        (λ js l h. inr (leaves (record { late = late; others = l; hands = refl; after = releases (one h) })))
         (ih (suc now) (ReadyToSend true end-mark) tt))
 
     row-ready-for-data : (some-handed : Bool) (s : ℕ) (c d : Bool) → Row (ReadyForData some-handed s) c d
@@ -211,7 +270,7 @@ module _ (L : Limits) where
     -- The last set-up tick shows b, and the first valid tick too.
     to-valid : (end-mark : Bool) (bits-left value s : ℕ) (b : Bool) (now : ℕ) (w : List Lines) → Holds w
         → InTime (SetUp end-mark value b s bits-left) now
-        → Sound (From (SetUp end-mark value b s bits-left) now (lines false b ∷ w))
+        → Sound (From (SetUp end-mark value b s bits-left) now (lines (underWay (L .entry)) false b ∷ w))
         (run L (suc now) (Valid end-mark value b now bits-left) w)
     to-valid end-mark bits-left value s b now w ih i =
         goes (offers b)
@@ -242,7 +301,7 @@ module _ (L : Limits) where
 
     on-valid : (end-mark : Bool) (bits-left value s : ℕ) (b : Bool) (now : ℕ) (w : List Lines) → Holds w
         → InTime (Valid end-mark value b s bits-left) now
-        → Sound (From (Valid end-mark value b s bits-left) now (lines false b ∷ w))
+        → Sound (From (Valid end-mark value b s bits-left) now (lines (underWay (L .entry)) false b ∷ w))
         (onward (if below (L .«valid_most») s now then Go (Valid end-mark value b s bits-left)
         else Stop ClockStall) now (λ (q : Phase). run L (suc now) q w))
     on-valid end-mark bits-left value s b now w ih i =
@@ -291,6 +350,7 @@ module _ (L : Limits) where
     row (Open end-mark value s l) c d = row-open end-mark value s l c d
     row (Carried end-mark value s) c d = row-carried end-mark value s c d
     row (End f) c d = row-end f c d
+    row (Finished f) c d = λ now w ih i. dead _ _ _
     row (Decided f) c d = λ now w ih i. dead _ _ _
 
     cut : (p : Phase) (now : ℕ) → Sound (From p now []) (record { decision = cutAt now; bytes = [] })
@@ -302,24 +362,39 @@ module _ (L : Limits) where
         by-stage : Told p → Sound (From p now []) (ended p now)
         by-stage (is-running r) =
             subst⁻¹ (λ (g : Stage). Sound (From p now []) (record { decision = decisionIn g now; bytes = [] })) r (cut _ _)
+        by-stage (is-holding byte r) =
+            subst⁻¹ (λ (g : Stage). Sound (From p now []) (record { decision = decisionIn g now; bytes = [] })) r (cut _ _)
         by-stage (is-end finish r) =
             subst⁻¹ (λ (q : Phase). Sound (From q now []) (ended q now)) r
             (record { prove = λ h. record { js = []; gives = refl; shape = record { count = 0; is = refl; bytes = refl } } })
+        by-stage (is-past finish r) =
+            subst⁻¹ (λ (q : Phase). Sound (From q now []) (ended q now)) r
+            (record { prove = λ h. record { js = []; gives = refl; shape = record { after = []; tidy = tt; is = refl; bytes = refl } } })
         by-stage (is-decided fault r) = subst⁻¹ (λ (q : Phase). Sound (From q now []) (ended q now)) r (dead _ _ _)
 
     one-more : (p : Phase) (now : ℕ) (w : List Lines) (a c d : Bool) → Holds w → InTime p now
-        → Sound (From p now (record { atn = a; clk = c; «data» = d } ∷ w)) (run L now p (record { atn = a; clk = c; «data» = d } ∷ w))
+        → Sound (From p now (lines a c d ∷ w)) (run L now p (lines a c d ∷ w))
     unfolding run move
-    one-more p now w true c d ih i = by-stage (stage p)
+    one-more p now w a c d ih i = by-stage (stage p) (heeded (L .entry) a) (by-entry (L .entry) refl a)
       where
-        by-stage : (g : Stage) → Sound (From p now (record { atn = true; clk = c; «data» = d } ∷ w))
-            (onward (unlessFallen g (Stop Attention)) now (λ (q : Phase). run L (suc now) q w))
-        by-stage Running = dead _ _ _
-        by-stage (Ended finish) = dead _ _ _
-        by-stage (Fallen fault) = dead _ _ _
-    one-more p now w false c d ih i =
-        subst⁻¹ (λ (x : Move). Sound (From p now (lines c d ∷ w)) (onward x now (λ (q : Phase). run L (suc now) q w)))
-        (released-move L now p c d) (row p c d now w ih i)
+        Reads : (atn : Bool) → Move → Type 0
+        Reads atn does = Sound (From p now (lines atn c d ∷ w)) (onward does now (λ (q : Phase). run L (suc now) q w))
+
+        heeded : Entry → (atn : Bool) → Move
+        heeded entry atn = heed entry atn (Stop Attention) (next L now p c d) (released L now (stage p) c d)
+
+        by-entry : (entry : Entry) → L .entry ≡ entry → (atn : Bool) → Reads atn (heeded entry atn)
+        by-entry Plain e true = dead _ _ _
+        by-entry Plain e false = subst (λ (entry : Entry). Reads (underWay entry) (next L now p c d)) e (row p c d now w ih i)
+        by-entry Command e true = subst (λ (entry : Entry). Reads (underWay entry) (next L now p c d)) e (row p c d now w ih i)
+        by-entry Command e false = released-in e p c d now w ih
+
+        by-stage : (g : Stage) (does : Move) → Reads a does → Reads a (unlessFallen g does)
+        by-stage Running does here = here
+        by-stage (Holding byte) does here = here
+        by-stage (Ended finish) does here = here
+        by-stage (Past finish) does here = here
+        by-stage (Fallen fault) does here = dead _ _ _
 
     sound : (w : List Lines) → Holds w
     unfolding run
@@ -331,7 +406,7 @@ module _ (L : Limits) where
       pub plan : Plan
       pub rules : PlanRules L plan
       pub tidy : Tidy (plan .sending)
-      pub gives : w ≡ map shows (track plan)
+      pub gives : w ≡ map (shows L) (track plan)
       pub bytes : l ≡ planBytes plan
 
     planned : (w : List Lines) (l : List Byte) → From Start 0 w l → Planned w l
@@ -351,7 +426,7 @@ module _ (L : Limits) where
           tidy = s .tidy;
           gives =
               f .gives
-              ∙ ap (map shows)
+              ∙ ap (map (shows L))
               (a .splits
               ∙ ap (λ y. replicate (a .count) clock ++ y)
               (h .splits

@@ -4,16 +4,18 @@ use native.Mathlib.Omega.{arith}
 use mathlib.Core.Bool.{true≢false}
 use mathlib.Core.Path.{refl, sym, ap, _∙_}
 use Rattle.transfer.specs.Outcome.{onward, run, outcome}
-use Rattle.transfer.specs.Moves.{cutAt, Stage, Running, Ended, Fallen, stage, hasFallen, isDecided, decisionIn}
+use Rattle.transfer.specs.Moves.{cutAt, Stage, Running, Holding, Ended, Past, Fallen, stage, hasFallen, isDecided, decisionIn}
 use Rattle.transfer.specs.Phases.{Move, Go, Hand, Stop}
 use Rattle.transfer.specs.Types.{Limits, Lines, Phase, Start, Decision}
 use Rattle.answer.specs.Types.{Verdict, Complete, Cut, Broken}
 use Rattle.transfer.proofs.Stages.{undecided}
-use Rattle.transfer.proofs.Rows.{Climbs, stops, goes, hands, climbs, finishedIn, latestIn, finished, latest}
+use Rattle.transfer.proofs.Rows.{Climbs, stops, goes, hands, climbs, settled, finishedIn, latestIn, finished, latest}
 
 no-later : (g : Stage) (now : ℕ) → finishedIn g ≤ now → latestIn g now ≤ suc now
 no-later Running now h = omega arith
+no-later (Holding byte) now h = omega arith
 no-later (Ended finish) now h = omega arith
+no-later (Past finish) now h = omega arith
 no-later (Fallen fault) now h = omega arith
 
 -- The decision in a state: cut at the next tick, or inside.
@@ -36,7 +38,9 @@ not-cut d n e h = record { cut = λ v. absurd (true≢false (ap isCut (sym v) �
 decision-in : (g : Stage) (tick n : ℕ) → (hasFallen g ≡ false → tick ≡ n) → (hasFallen g ≡ true → tick < n) → finishedIn g ≤ n
     → Placed (decisionIn g tick) n
 decision-in Running tick n u d f = cut-at tick n (u refl)
+decision-in (Holding byte) tick n u d f = cut-at tick n (u refl)
 decision-in (Ended finish) tick n u d f = not-cut _ n refl (omega arith)
+decision-in (Past finish) tick n u d f = not-cut _ n refl (omega arith)
 decision-in (Fallen fault) tick n u d f = not-cut _ n refl (d refl)
 
 -- From a phase that is not decided, and whose finish tick has been read, if it is the end.
@@ -51,11 +55,11 @@ module _ (L : Limits) where
         let z : now + suc (length w) ≡ suc now + length w = omega arith in
         rw z (ih (suc now) q u (omega (arith, no-later (stage p) now f)))
 
-    moved : (x : Move) → Climbs now p l x
+    moved : (x : Move) → Climbs now p (settled (L .entry) l) x
         → Placed (onward x now (λ (q : Phase). run L (suc now) q w) .decision) (now + suc (length w))
     moved (Stop fault) stops = not-cut _ _ refl (omega arith)
-    moved (Go q) (goes a h e) = beyond q (undecided q l e) h
-    moved (Hand b q) (hands a h e held taken) = beyond q (undecided q l e) h
+    moved (Go q) (goes a h e) = beyond q (undecided (L .entry) q l e) h
+    moved (Hand b q) (hands a h e held taken) = beyond q (undecided (L .entry) q l e) h
 
   lies : (w : List Lines) → Lies w
   unfolding run

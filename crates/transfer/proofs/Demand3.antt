@@ -1,20 +1,34 @@
 -- Demand 3 over tick lists, for all times that are consistent, and at document 01's own. Assumes nothing.
-use Rattle.answer.specs.Basics.{ℕ, Bool, _||_, List, [], _∷_, map, _≡_}
+use Rattle.answer.specs.Basics.{ℕ, Bool, false, _||_, List, [], _∷_, map, _≡_}
 use native.Mathlib.Omega.{arith}
 use mathlib.Core.Path.{refl, sym, ap, ap₂, _∙_, subst, subst⁻¹}
-use Rattle.transfer.specs.{Limits.standardLimits, Outcome.run, Outcome.outcome, Parties.Pulls, Parties.pulls, Parties.track}
+use Rattle.transfer.specs.{Limits.standardLimits, Limits.commandLimits, Outcome.run, Outcome.outcome}
+use Rattle.transfer.specs.Parties.{Pulls, pulls, past, underWay, attention, track}
 use Rattle.transfer.specs.{Shown.shown}
-use Rattle.transfer.specs.Pair.{SenderPulls, senderPulls, receiverPulls, gives, values, SameOrLater}
+use Rattle.transfer.specs.Pair.{SenderPulls, senderPulls, receiverPulls, attentionTrack, gives, values, SameOrLater}
 use Rattle.transfer.specs.Demand3.{Consistent, CompleteWith, shownSender, shownReceiver, Explains, Explained, OutcomeDemand3}
-use Rattle.transfer.specs.Demand3.{Demand3Law, StandardDemand3}
+use Rattle.transfer.specs.Demand3.{Demand3Law, StandardDemand3, CommandDemand3, CommandsConsistent}
 use Rattle.transfer.specs.Types.{Limits, Lines, Byte, Start}
 use Rattle.answer.specs.Types.{Complete}
 use Rattle.transfer.proofs.{Rows.lines, Forward.shows, Forward.CompleteBy, Forward.along, Backward.Planned, Backward.back}
-use Rattle.transfer.proofs.{Shown.shows-plan}
+use Rattle.transfer.proofs.{Stages.plain-is-no-command, Shown.bare, Shown.shows-plan}
 
-gives-shows : (js : List Pulls) → gives (map senderPulls js) (map receiverPulls js) ≡ map shows js
-gives-shows [] = refl
-gives-shows (pulls c s r ∷ js) = ap (λ x. lines c (r || s) ∷ x) (gives-shows js)
+gives-shows : (L : Limits) (js : List Pulls)
+    → gives (map (attention (L .entry)) js) (map senderPulls js) (map receiverPulls js) ≡ map (shows L) js
+gives-shows L [] = refl
+gives-shows L (pulls c s r ∷ js) = ap (λ x. lines (underWay (L .entry)) c (r || s) ∷ x) (gives-shows L js)
+gives-shows L (past c s r ∷ js) = ap (λ x. lines false c (r || s) ∷ x) (gives-shows L js)
+
+-- Who pulls is all that the two tracks have.
+bare-sender : (js : List Pulls) → map senderPulls (map bare js) ≡ map senderPulls js
+bare-sender [] = refl
+bare-sender (pulls c s r ∷ js) = ap (λ x. record { clk = c; «data» = s } ∷ x) (bare-sender js)
+bare-sender (past c s r ∷ js) = ap (λ x. record { clk = c; «data» = s } ∷ x) (bare-sender js)
+
+bare-receiver : (js : List Pulls) → map receiverPulls (map bare js) ≡ map receiverPulls js
+bare-receiver [] = refl
+bare-receiver (pulls c s r ∷ js) = ap (λ x. r ∷ x) (bare-receiver js)
+bare-receiver (past c s r ∷ js) = ap (λ x. r ∷ x) (bare-receiver js)
 
 same-values : (ledger other : List Byte) → SameOrLater ledger other → values ledger ≡ values other
 same-values [] [] h = refl
@@ -29,9 +43,9 @@ module _ (L : Limits) (times : Consistent L) (w : List Lines) where
       → CompleteBy (outcome L w) dated
   reads string sender receiver dated x =
       let p = x .pair in
-      let given : map shows (track (p .plan)) ≡ w =
-      sym (gives-shows (track (p .plan))) ∙ sym (ap₂ gives (p .sends) (p .receives)) ∙ x .gives-it in
-      let bytes = subst⁻¹ (λ l. CompleteBy (run L 0 Start (map shows (track (p .plan)))) l) (p .dated-so) (along L times
+      let given : map (shows L) (track (p .plan)) ≡ w =
+      sym (gives-shows L (track (p .plan))) ∙ sym (ap₂ (gives (attentionTrack (L .entry) (p .plan))) (p .sends) (p .receives)) ∙ x .gives-it in
+      let bytes = subst⁻¹ (λ l. CompleteBy (run L 0 Start (map (shows L) (track (p .plan)))) l) (p .dated-so) (along L times
       (p .plan) (p .rules)) in
       subst (λ v. CompleteBy (run L 0 Start v) dated) given bytes
 
@@ -43,19 +57,22 @@ module _ (L : Limits) (times : Consistent L) (w : List Lines) where
       → Explains L w string (shownSender (outcome L w .bytes) w) (shownReceiver (outcome L w .bytes) w) (outcome L w .bytes)
   shows-pair string c =
       let p = planned (c .verdict) in
-      let e : shown (outcome L w .bytes) w ≡ track (p .plan) =
+      let e : shown (outcome L w .bytes) w ≡ map bare (track (p .plan)) =
       ap₂ shown (p .bytes) (p .gives) ∙ shows-plan L times (p .plan) (p .rules) (p .tidy) in
+      let sends = ap (map senderPulls) e ∙ bare-sender (track (p .plan)) in
+      let receives = ap (map receiverPulls) e ∙ bare-receiver (track (p .plan)) in
       record {
         pair =
             record {
               plan = p .plan;
               rules = p .rules;
-              sends = ap (map senderPulls) e;
-              receives = ap (map receiverPulls) e;
+              sends = sends;
+              receives = receives;
               string-is = sym (c .bytes) ∙ ap values (p .bytes);
               dated-so = p .bytes;
             };
-        gives-it = gives-shows (shown (outcome L w .bytes) w) ∙ ap (map shows) e ∙ sym (p .gives);
+        gives-it =
+            ap₂ (gives (attentionTrack (L .entry) (p .plan))) sends receives ∙ gives-shows L (track (p .plan)) ∙ sym (p .gives);
       }
 
   explained : (string : List ℕ) → CompleteWith L w string → Explained L w string
@@ -94,6 +111,7 @@ standard-consistent =
     record {
       end-mark = omega arith;
       end-mark-in-time = omega arith;
+      no-end-mark = λ command. absurd (plain-is-no-command command);
       ready-for-data = omega arith;
       acknowledge-some = omega arith;
       acknowledge-room = omega arith;
@@ -108,3 +126,24 @@ standard-consistent =
 
 pub standard-demand3 : StandardDemand3
 standard-demand3 w = demand3 standardLimits standard-consistent w
+
+pub commands-consistent : CommandsConsistent
+commands-consistent L t =
+    record {
+      end-mark = t .end-mark;
+      end-mark-in-time = omega (arith, t .end-mark);
+      no-end-mark = λ command. omega (arith, t .end-mark);
+      ready-for-data = omega (arith, t .end-mark);
+      acknowledge-some = t .acknowledge-some;
+      acknowledge-room = t .acknowledge-room;
+      timeout = omega (arith, t .end-mark-in-time, t .timeout);
+      set-up-some = t .set-up-some;
+      valid-some = t .valid-some;
+      valid-room = t .valid-room;
+      keep-some = t .keep-some;
+      keep-take = t .keep-take;
+      keep-release = t .keep-release;
+    }
+
+pub command-demand3 : CommandDemand3
+command-demand3 w = demand3 commandLimits (commands-consistent standardLimits standard-consistent) w

@@ -5,22 +5,25 @@ use native.Mathlib.Omega.{arith}
 use mathlib.Core.List.{append-nil}
 use mathlib.Core.Path.{refl, sym, ap, _∙_, subst, subst⁻¹}
 use borrow.Author.Tests.{lt-ltb, le-ltb, le-leb, lt-leb}
-use Rattle.transfer.specs.{Moves.heldByte, Pair.SameOrLater, Demand3.Consistent}
+use Rattle.transfer.specs.{Moves.stage, Moves.isDecided, Moves.finishing, Moves.released, Moves.heldByte, Pair.SameOrLater}
+use Rattle.transfer.specs.{Demand3.Consistent}
 use Rattle.transfer.specs.Phases.{below, upTo, Move, Go, Hand, next, same, withBit, handover, afterBit}
 use Rattle.transfer.specs.Outcome.{Outcome, ended, give, onward, run}
-use Rattle.transfer.specs.Parties.{Pulls, pulls, nobody, held, clock, clockHeld, sets, offers, Bit, Frame, Sending, more, last, Plan}
+use Rattle.transfer.specs.Parties.{Pulls, pulls, past, underWay, nobody, held, clock, clockHeld, sets, offers, Bit, Frame, Free}
+use Rattle.transfer.specs.Parties.{Sending, more, last, lastCommand, Plan, finishTick, freeTick}
 use Rattle.transfer.specs.Parties.{bitsTrack, frameTrack, sendingTrack, track, bitsTicks, byteOf, afterFrame, sendingBytes, planBytes}
 use Rattle.transfer.specs.Rules.{lastOf, FirstTakeRule, FirstReleaseRule, LetGoRule, EndMarkRule, BitRule, BitRules, FrameRules}
 use Rattle.transfer.specs.Rules.{SendingRules, PlanRules}
-use Rattle.transfer.specs.Types.{Limits, Lines, Byte, Phase, Start, FirstHold, Hold, ReadyToSend, ReadyForData, Acknowledgement}
-use Rattle.transfer.specs.Types.{Acknowledged, SetUp, Valid, Open, Carried, End}
+use Rattle.transfer.specs.Types.{Command, Limits, Lines, Byte, Phase, Start, FirstHold, Hold, ReadyToSend, ReadyForData, Acknowledgement}
+use Rattle.transfer.specs.Types.{Acknowledged, SetUp, Valid, Open, Carried, End, Finished}
 use Rattle.answer.specs.Types.{Complete}
-use Rattle.transfer.proofs.{Rows.lines, Stages.released-move, ByteValue.takenIn, ByteValue.lastBit, ByteValue.eight-bits}
+use Rattle.transfer.proofs.{Rows.lines, Stages.under-way-move, Stages.released-move, ByteValue.takenIn, ByteValue.lastBit, ByteValue.eight-bits}
 use Rattle.transfer.proofs.HandoverTicks.{isPositive, less, handoverTicks, frameTicks, frame-ticks}
 
 -- What the bus shows of one tick of both tracks.
-abbrev pub shows : Pulls → Lines
-shows (pulls c s r) = lines c (r || s)
+abbrev pub shows : Limits → Pulls → Lines
+shows L (pulls c s r) = lines (underWay (L .entry)) c (r || s)
+shows L (past c s r) = lines false c (r || s)
 
 -- A row's test that holds, and one that fails.
 module _ (n since now : ℕ) (x y : Move) where
@@ -65,12 +68,12 @@ then-hands e h =
 module _ (L : Limits) where
   -- One tick.
   one-tick : (now : ℕ) (p : Phase) (x : Move) (c d : Bool) (w : List Lines) → next L now p c d ≡ x
-      → run L now p (lines c d ∷ w) ≡ onward x now (λ (q : Phase). run L (suc now) q w)
+      → run L now p (lines (underWay (L .entry)) c d ∷ w) ≡ onward x now (λ (q : Phase). run L (suc now) q w)
   unfolding run
-  one-tick now p x c d w e = ap (λ (y : Move). onward y now (λ (q : Phase). run L (suc now) q w)) (released-move L now p c d ∙ e)
+  one-tick now p x c d w e = ap (λ (y : Move). onward y now (λ (q : Phase). run L (suc now) q w)) (under-way-move L now p c d ∙ e)
 
   step : (now : ℕ) (p q : Phase) (c d : Bool) (w : List Lines) → next L now p c d ≡ Go q
-      → run L now p (lines c d ∷ w) ≡ run L (suc now) q w
+      → run L now p (lines (underWay (L .entry)) c d ∷ w) ≡ run L (suc now) q w
   step now p q c d w e = one-tick now p (Go q) c d w e
 
   at-tick : (p : Phase) (w : List Lines) {a b : ℕ} → a ≡ b → run L a p w ≡ run L b p w
@@ -78,26 +81,26 @@ module _ (L : Limits) where
 
   -- k equal ticks in which a phase stays; k equal ticks of which the first leads into a phase.
   stays : (p : Phase) (c s r : Bool) (k now : ℕ) (js : List Pulls) → ((i : ℕ) → now ≤ i → i < now + k → next L i p c (r || s) ≡ Go p)
-      → run L now p (map shows (replicate k (pulls c s r) ++ js)) ≡ run L (now + k) p (map shows js)
-  stays p c s r zero now js h = at-tick p (map shows js) (omega arith)
+      → run L now p (map (shows L) (replicate k (pulls c s r) ++ js)) ≡ run L (now + k) p (map (shows L) js)
+  stays p c s r zero now js h = at-tick p (map (shows L) js) (omega arith)
   stays p c s r (suc k) now js h =
       step now p p c (r || s) _ (h now (omega arith) (omega arith))
       ∙ stays p c s r k (suc now) js (λ i a b. h i (omega arith) (omega arith))
-      ∙ at-tick p (map shows js) (omega arith)
+      ∙ at-tick p (map (shows L) js) (omega arith)
 
   enters : (p q : Phase) (c s r : Bool) (k now : ℕ) (js : List Pulls) → 1 ≤ k → next L now p c (r || s) ≡ Go q
       → ((i : ℕ) → now < i → i < now + k → next L i q c (r || s) ≡ Go q)
-      → run L now p (map shows (replicate k (pulls c s r) ++ js)) ≡ run L (now + k) q (map shows js)
+      → run L now p (map (shows L) (replicate k (pulls c s r) ++ js)) ≡ run L (now + k) q (map (shows L) js)
   enters p q c s r zero now js one e h = absurd (omega arith)
   enters p q c s r (suc k) now js one e h =
       step now p q c (r || s) _ e
       ∙ stays q c s r k (suc now) js (λ i a b. h i (omega arith) (omega arith))
-      ∙ at-tick q (map shows js) (omega arith)
+      ∙ at-tick q (map (shows L) js) (omega arith)
 
   -- A, B and C, up to the first letting go.
   along-start : (found hold wait : ℕ) (js : List Pulls) → FirstTakeRule L found → FirstReleaseRule L hold → LetGoRule L wait
-      → run L 0 Start (map shows (replicate found clock ++ (replicate hold clockHeld ++ (replicate wait held ++ js))))
-      ≡ run L (found + hold + wait) (ReadyToSend false false) (map shows js)
+      → run L 0 Start (map (shows L) (replicate found clock ++ (replicate hold clockHeld ++ (replicate wait held ++ js))))
+      ≡ run L (found + hold + wait) (ReadyToSend false false) (map (shows L) js)
   unfolding next
   along-start found hold wait js take release let-go =
       stays Start true false false found 0 _ (λ i x y. is-below _ _ _ _ _ (omega arith))
@@ -108,8 +111,8 @@ module _ (L : Limits) where
   -- A set-up's further ticks.
   along-set-up : (end-mark : Bool) (bits-left value s now : ℕ) (d : Bool) (ds : List Bool) (js : List Pulls)
       → now + length ds ≤ s + L .«set_up_most»
-      → run L now (SetUp end-mark value d s bits-left) (map shows (map sets ds ++ js))
-      ≡ run L (now + length ds) (SetUp end-mark value (lastOf d ds) s bits-left) (map shows js)
+      → run L now (SetUp end-mark value d s bits-left) (map (shows L) (map sets ds ++ js))
+      ≡ run L (now + length ds) (SetUp end-mark value (lastOf d ds) s bits-left) (map (shows L) js)
   unfolding next
   along-set-up end-mark bits-left value s now d [] js h = at-tick _ _ (omega arith)
   along-set-up end-mark bits-left value s now d (e ∷ ds) js h =
@@ -120,14 +123,14 @@ module _ (L : Limits) where
   -- One bit, from the tick after its first set-up tick `s` to its last valid tick.
   along-bit : (end-mark : Bool) (bits-left value s : ℕ) (x : Bit) (js : List Pulls) → 1 ≤ x .valid → BitRule L x
       → run L (suc s) (SetUp end-mark value (x .first) s bits-left)
-      (map shows (map sets (x .others) ++ (replicate (x .valid) (offers (x .bit)) ++ js)))
+      (map (shows L) (map sets (x .others) ++ (replicate (x .valid) (offers (x .bit)) ++ js)))
       ≡ run L (s + suc (length (x .others) + x .valid)) (Valid end-mark value (x .bit) (suc s + length (x .others)) bits-left)
-      (map shows js)
+      (map (shows L) js)
   unfolding next
   along-bit end-mark bits-left value s x js one rules =
       along-set-up end-mark bits-left value s (suc s) (x .first) (x .others) _ (omega (arith, rules .set-up))
       ∙ ap (λ (b : Bool). run L (suc s + length (x .others)) (SetUp end-mark value b s bits-left)
-      (map shows (replicate (x .valid) (offers (x .bit)) ++ js))) (sym (rules .steady))
+      (map (shows L) (replicate (x .valid) (offers (x .bit)) ++ js))) (sym (rules .steady))
       ∙ enters (SetUp end-mark value (x .bit) s bits-left) (Valid end-mark value (x .bit) (suc s + length (x .others)) bits-left)
       false (x .bit) false (x .valid)
       (suc s + length (x .others)) js one (is-same (x .bit) _ _)
@@ -137,14 +140,14 @@ module _ (L : Limits) where
   -- What follows the hold of a byte, or its carried handover, at tick `at`: the byte is handed over, and then r.
   record Leaves (end-mark : Bool) (js : List Pulls) (at : ℕ) (r : Outcome) : Type 0 where
     from-hold : (value t l : ℕ) → t + L .«between_bytes» ≤ at
-        → run L at (Hold end-mark value t l) (map shows js) ≡ give (heldByte (Hold end-mark value t l)) r
+        → run L at (Hold end-mark value t l) (map (shows L) js) ≡ give (heldByte (Hold end-mark value t l)) r
     from-carried : (value s : ℕ) → s + L .«between_bytes» < at
-        → run L at (Carried end-mark value s) (map shows js) ≡ give (heldByte (Carried end-mark value s)) r
+        → run L at (Carried end-mark value s) (map (shows L) js) ≡ give (heldByte (Carried end-mark value s)) r
 
   -- The sender releases CLK, which hands the byte over, and the receiver lets go k ticks later.
   releases : (p : Phase) (end-mark : Bool) (k at : ℕ) (js : List Pulls) → 1 ≤ k
       → next L at p false true ≡ Hand (heldByte p) (ReadyToSend true end-mark)
-      → run L at p (map shows (replicate k held ++ js)) ≡ give (heldByte p) (run L (at + k) (ReadyToSend true end-mark) (map shows js))
+      → run L at p (map (shows L) (replicate k held ++ js)) ≡ give (heldByte p) (run L (at + k) (ReadyToSend true end-mark) (map (shows L) js))
   unfolding next
   releases p end-mark zero at js one e = absurd (omega arith)
   releases p end-mark (suc k) at js one e =
@@ -153,7 +156,7 @@ module _ (L : Limits) where
       (stays (ReadyToSend true end-mark) false false true k (suc at) js (λ i x y. refl) ∙ at-tick _ _ (omega arith))
 
   lets-go : (end-mark : Bool) (k at : ℕ) (js : List Pulls) → LetGoRule L k
-      → Leaves end-mark (replicate k held ++ js) at (run L (at + k) (ReadyToSend true end-mark) (map shows js))
+      → Leaves end-mark (replicate k held ++ js) at (run L (at + k) (ReadyToSend true end-mark) (map (shows L) js))
   unfolding next
   lets-go end-mark k at js rule =
       record {
@@ -161,13 +164,47 @@ module _ (L : Limits) where
         from-carried = λ value s h. releases (Carried end-mark value s) end-mark k at js (rule .later) (not-upTo _ _ _ _ _ h);
       }
 
+  -- Commands: a tick with ATN released, the finish, and the ticks after it.
+  module _ (command : L .entry ≡ Command) where
+    released-tick : (now : ℕ) (p : Phase) (x : Move) (c d : Bool) (w : List Lines) → isDecided p ≡ false → released L now (stage p) c d ≡ x
+        → run L now p (lines false c d ∷ w) ≡ onward x now (λ (q : Phase). run L (suc now) q w)
+    unfolding run
+    released-tick now p x c d w u e =
+        ap (λ (y : Move). onward y now (λ (q : Phase). run L (suc now) q w)) (released-move L now p c d command u ∙ e)
+
+    finishes : (end-mark : Bool) (at : ℕ) (js : List Pulls)
+        → Leaves end-mark (finishTick ∷ js) at (run L (suc at) (Finished at) (map (shows L) js))
+    unfolding finishing below
+    finishes end-mark at js =
+        record {
+          from-hold = λ value t l h.
+              let p = Hold end-mark value t l in
+              released-tick at p (Hand (heldByte p) (Finished at)) true true _ refl
+              (ap (λ (b : Bool). finishing b at (heldByte p) true true) (le-ltb at (t + L .«between_bytes») h));
+          from-carried = λ value s h.
+              let p = Carried end-mark value s in
+              released-tick at p (Hand (heldByte p) (Finished at)) true true _ refl
+              (ap (λ (b : Bool). finishing b at (heldByte p) true true) (le-ltb at (s + 1 + L .«between_bytes») (omega arith)));
+        }
+
+    along-free : (finish now : ℕ) (after : List Free)
+        → run L now (Finished finish) (map (shows L) (map freeTick after)) ≡ ended (Finished finish) (now + length after)
+    unfolding run
+    along-free finish now [] = let z : now ≡ now + 0 = omega arith in ap (λ (t : ℕ). ended (Finished finish) t) z
+    along-free finish now (x ∷ after) =
+        let z : suc now + length after ≡ now + suc (length after) = omega arith in
+        released-tick now (Finished finish) (Go (Finished finish)) (x .clk) (x .receiver || x .sender) (map (shows L) (map freeTick after))
+        refl refl
+        ∙ along-free finish (suc now) after
+        ∙ ap (λ (t : ℕ). ended (Finished finish) t) z
+
   -- A handover: CLK was pulled at tick `since`, the receiver takes at tick `take`, and from tick `at` on js follows.
   module _ (end-mark : Bool) (value since take at : ℕ) (js : List Pulls) (r : Outcome)
       (after : Leaves end-mark js at r) (begun : since < take)
       (in-time : take ≤ since + L .«take_latest») (held-on : take < at) (late : take + L .«between_bytes» ≤ at) where
     -- The receiver holds DATA for n more ticks.
     along-hold : (l n now : ℕ) → now + n ≡ at
-        → run L now (Hold end-mark value take l) (map shows (handoverTicks n 0 0 ++ js)) ≡ give (heldByte (Hold end-mark value take l)) r
+        → run L now (Hold end-mark value take l) (map (shows L) (handoverTicks n 0 0 ++ js)) ≡ give (heldByte (Hold end-mark value take l)) r
     unfolding next
     along-hold l zero now e = at-tick _ _ (omega arith) ∙ after .from-hold value take l late
     along-hold l (suc n) now e =
@@ -175,7 +212,7 @@ module _ (L : Limits) where
 
     -- Open, with the take t ticks ahead.
     along-open : (l t n now : ℕ) → now + t ≡ take → now + n ≡ at
-        → run L now (Open end-mark value since l) (map shows (handoverTicks n 0 t ++ js)) ≡ give (heldByte (Hold end-mark value take l)) r
+        → run L now (Open end-mark value since l) (map (shows L) (handoverTicks n 0 t ++ js)) ≡ give (heldByte (Hold end-mark value take l)) r
     unfolding next
     along-open l t zero now d e = absurd (omega arith)
     along-open l zero (suc n) now d e =
@@ -188,7 +225,7 @@ module _ (L : Limits) where
 
     -- Carried, with the receiver on DATA, alone or beside the sender, for n more ticks.
     along-both : (l n now : ℕ) → now + n ≡ at
-        → run L now (Carried end-mark value since) (map shows (handoverTicks n l 0 ++ js))
+        → run L now (Carried end-mark value since) (map (shows L) (handoverTicks n l 0 ++ js))
         ≡ give (heldByte (Carried end-mark value since)) r
     unfolding next
     along-both l zero now e = at-tick _ _ (omega arith) ∙ after .from-carried value since (omega arith)
@@ -199,7 +236,7 @@ module _ (L : Limits) where
     -- Carried, with the letting go l ticks ahead and the take t.
     along-carried : (let-go l t n now : ℕ) → let-go ≤ since + L .«keep_most» → since < now → now + l ≡ let-go → now + t ≡ take
         → now + n ≡ at
-        → Hands (run L now (Carried end-mark value since) (map shows (handoverTicks n l t ++ js))) r
+        → Hands (run L now (Carried end-mark value since) (map (shows L) (handoverTicks n l t ++ js))) r
         (record { value = value; «let_go» = let-go; take = take })
     unfolding next
     along-carried let-go l zero n now k b c d e =
@@ -223,7 +260,7 @@ module _ (L : Limits) where
     -- From the CLK pull after bit 8 on.
     along-handover : (bit8 : Bool) (l t n : ℕ) → (bit8 ≡ false → l ≡ 0) → l ≤ L .«keep_most» → since + suc t ≡ take → since + suc n ≡ at
         → Hands (onward (handover end-mark value since bit8 (isPositive l)) since
-        (λ (q : Phase). run L (suc since) q (map shows (handoverTicks n (less l) t ++ js)))) r
+        (λ (q : Phase). run L (suc since) q (map (shows L) (handoverTicks n (less l) t ++ js)))) r
         (record { value = value; «let_go» = since + l; take = take })
     unfolding handover
     along-handover bit8 zero t n z k d e =
@@ -241,8 +278,8 @@ module _ (L : Limits) where
   module _ (times : Consistent L) where
     -- D up to a CLK pull or an acknowledgement, F and G.
     along-gap : (some-handed : Bool) (gap now : ℕ) (js : List Pulls) → 1 ≤ gap → gap ≤ L .«end_mark_latest»
-        → run L now (ReadyToSend some-handed false) (map shows (replicate gap nobody ++ js))
-        ≡ run L (now + gap) (ReadyForData some-handed now) (map shows js)
+        → run L now (ReadyToSend some-handed false) (map (shows L) (replicate gap nobody ++ js))
+        ≡ run L (now + gap) (ReadyForData some-handed now) (map (shows L) js)
     unfolding next
     along-gap some-handed gap now js a b =
         enters (ReadyToSend some-handed false) (ReadyForData some-handed now) false false false gap now _ a refl
@@ -250,8 +287,8 @@ module _ (L : Limits) where
 
     along-mark : (some-handed : Bool) (gap ack resp now : ℕ) (js : List Pulls) → EndMarkRule L gap ack resp
         → run L now (ReadyToSend some-handed false)
-        (map shows (replicate gap nobody ++ (replicate ack held ++ (replicate resp nobody ++ js))))
-        ≡ run L (now + gap + ack + resp) (Acknowledged some-handed (now + gap + ack) now) (map shows js)
+        (map (shows L) (replicate gap nobody ++ (replicate ack held ++ (replicate resp nobody ++ js))))
+        ≡ run L (now + gap + ack + resp) (Acknowledged some-handed (now + gap + ack) now) (map (shows L) js)
     unfolding next
     along-mark some-handed gap ack resp now js rule =
         along-gap some-handed gap now _ (omega (arith, times .end-mark)) (rule .gap-most)
@@ -264,16 +301,16 @@ module _ (L : Limits) where
     -- Bits, from the tick after the first set-up tick to the CLK pull after the last of them, which shows DATA d.
     along-bits : (end-mark : Bool) (value now : ℕ) (x : Bit) (xs : List Bit) (d : Bool) (js : List Pulls) → BitRule L x → BitRules L xs
         → run L (suc now) (SetUp end-mark value (x .first) now (length xs))
-        (map shows (map sets (x .others) ++ (replicate (x .valid) (offers (x .bit)) ++ bitsTrack xs (sets d ∷ js))))
+        (map (shows L) (map sets (x .others) ++ (replicate (x .valid) (offers (x .bit)) ++ bitsTrack xs (sets d ∷ js))))
         ≡ onward (handover end-mark (takenIn value (x ∷ xs)) (now + bitsTicks (x ∷ xs)) (lastBit (x .bit) xs) d) (now + bitsTicks (x ∷ xs))
-        (λ (q : Phase). run L (suc (now + bitsTicks (x ∷ xs))) q (map shows js))
+        (λ (q : Phase). run L (suc (now + bitsTicks (x ∷ xs))) q (map (shows L) js))
     unfolding next afterBit
     along-bits end-mark value now x [] d js rules all =
         along-bit end-mark 0 value now x (sets d ∷ js) (omega (arith, times .valid-some, rules .valid-least)) rules
         ∙ one-tick _ (Valid end-mark value (x .bit) (suc now + length (x .others)) 0)
         (handover end-mark (withBit value (x .bit)) (now + suc (length (x .others) + x .valid)) (x .bit) d) true d _
         (not-below _ _ _ _ _ (omega (arith, rules .valid-least)))
-        ∙ ap (λ e. onward (handover end-mark (withBit value (x .bit)) e (x .bit) d) e (λ (q : Phase). run L (suc e) q (map shows js)))
+        ∙ ap (λ e. onward (handover end-mark (withBit value (x .bit)) e (x .bit) d) e (λ (q : Phase). run L (suc e) q (map (shows L) js)))
         (omega arith)
     along-bits end-mark value now x (y ∷ ys) d js rules all =
         along-bit end-mark (suc (length ys)) value now x _ (omega (arith, times .valid-some, rules .valid-least)) rules
@@ -282,7 +319,7 @@ module _ (L : Limits) where
         (not-below _ _ _ _ _ (omega (arith, rules .valid-least)))
         ∙ along-bits end-mark (withBit value (x .bit)) (now + suc (length (x .others) + x .valid)) y ys d js (all .0) (all .1)
         ∙ ap (λ e. onward (handover end-mark (takenIn value (x ∷ y ∷ ys)) e (lastBit (y .bit) ys) d) e
-        (λ (q : Phase). run L (suc e) q (map shows js))) (omega arith)
+        (λ (q : Phase). run L (suc e) q (map (shows L) js))) (omega arith)
 
     -- A phase that a CLK pull at tick e leaves for the bits of a byte.
     abbrev Begins : Bool → ℕ → Phase → Type 0
@@ -295,7 +332,7 @@ module _ (L : Limits) where
     -- A byte, from the CLK pull that begins its bits to what follows its hold.
     along-fields : (end-mark : Bool) (p : Phase) (e : ℕ) (bits : List Bit) (l t n : ℕ) (js : List Pulls) (r : Outcome) → Begins end-mark e p
         → let f : Frame = record { bits = bits; let-go = l; take = t; release = n } in
-        FrameRules L f → Leaves end-mark js (afterFrame e f) r → Hands (run L e p (map shows (frameTicks f js))) r (byteOf e f)
+        FrameRules L f → Leaves end-mark js (afterFrame e f) r → Hands (run L e p (map (shows L) (frameTicks f js))) r (byteOf e f)
     along-fields end-mark p e [] l t n js r b rules after = absurd (omega (arith, rules .bits .eight))
     along-fields end-mark p e (x ∷ xs) l zero n js r b rules after = absurd (omega (arith, rules .handover .take-least))
     along-fields end-mark p e (x ∷ xs) l (suc t) zero js r b rules after = absurd (omega (arith, rules .release .after-take))
@@ -303,7 +340,7 @@ module _ (L : Limits) where
         let seven : length xs ≡ 7 = omega (arith, rules .bits .eight) in
         let since = e + bitsTicks (x ∷ xs) in
         subst
-        (λ (value : ℕ). Hands (run L e p (map shows (bitsTrack (x ∷ xs) (handoverTicks (suc n) l (suc t) ++ js)))) r
+        (λ (value : ℕ). Hands (run L e p (map (shows L) (bitsTrack (x ∷ xs) (handoverTicks (suc n) l (suc t) ++ js)))) r
         (record { value = value; «let_go» = since + l; take = since + suc t })) (eight-bits (x ∷ xs) (rules .bits .eight))
         (then-hands
         (step e p (SetUp end-mark 0 (x .first) e 7) true (x .first) _ (b (x .first))
@@ -315,13 +352,13 @@ module _ (L : Limits) where
         (lastBit (x .bit) xs) l t n (rules .handover .zero-keeps-not) (rules .handover .keeps) refl refl))
 
     along-frame : (end-mark : Bool) (p : Phase) (e : ℕ) (f : Frame) (js : List Pulls) (r : Outcome) → Begins end-mark e p → FrameRules L f
-        → Leaves end-mark js (afterFrame e f) r → Hands (run L e p (map shows (frameTrack f js))) r (byteOf e f)
+        → Leaves end-mark js (afterFrame e f) r → Hands (run L e p (map (shows L) (frameTrack f js))) r (byteOf e f)
     along-frame end-mark p e f js r b rules after =
-        then-hands (ap (λ (js : List Pulls). run L e p (map shows js)) (frame-ticks f js))
+        then-hands (ap (λ (js : List Pulls). run L e p (map (shows L) js)) (frame-ticks f js))
         (along-fields end-mark p e (f .bits) (f .let-go) (f .take) (f .release) js r b rules after)
 
     along-end : (silence now : ℕ) → 1 ≤ silence
-        → run L now (ReadyToSend true true) (map shows (replicate silence nobody)) ≡ ended (End now) now
+        → run L now (ReadyToSend true true) (map (shows L) (replicate silence nobody)) ≡ ended (End now) now
     unfolding next run
     along-end n now one =
         rw (← (append-nil (replicate n nobody)))
@@ -333,7 +370,7 @@ module _ (L : Limits) where
         (record { verdict = k .verdict; ledger = (refl, h .let-go-by, h .take-by, k .ledger) })
 
     along-sending : (some-handed : Bool) (now : ℕ) (s : Sending) → SendingRules L s
-        → CompleteBy (run L now (ReadyToSend some-handed false) (map shows (sendingTrack s))) (sendingBytes now s)
+        → CompleteBy (run L now (ReadyToSend some-handed false) (map (shows L) (sendingTrack s))) (sendingBytes now s)
     unfolding next
     along-sending some-handed now (more gap f wait rest) rules =
         let r = rules .0 in
@@ -348,9 +385,15 @@ module _ (L : Limits) where
         (along-frame true (Acknowledged some-handed (now + gap + ack) now) (now + gap + ack + resp) f _ _
         (λ d. is-upTo _ _ _ _ _ (omega (arith, rules .end-mark .response-most))) (rules .frame) (lets-go true wait _ _ (rules .let-go))))
         (subst⁻¹ (λ o. CompleteBy o []) (along-end silence _ (rules .silent .some)) (record { verdict = refl; ledger = tt }))
+    along-sending some-handed now (lastCommand gap f after) rules =
+        complete-on
+        (then-hands (along-gap some-handed gap now _ (rules .plain .least) (omega (arith, rules .plain .most, times .end-mark-in-time)))
+        (along-frame false (ReadyForData some-handed now) (now + gap) f _ _
+        (λ d. is-below _ _ _ _ _ (omega (arith, rules .plain .most))) (rules .frame) (finishes (rules .entry) false _ _)))
+        (subst⁻¹ (λ o. CompleteBy o []) (along-free (rules .entry) _ _ after) (record { verdict = refl; ledger = tt }))
 
     -- A plan that keeps the rules is read as complete, with the plan's bytes and each tick the plan's or an earlier one.
-    pub along : (p : Plan) → PlanRules L p → CompleteBy (run L 0 Start (map shows (track p))) (planBytes p)
+    pub along : (p : Plan) → PlanRules L p → CompleteBy (run L 0 Start (map (shows L) (track p))) (planBytes p)
     along p rules =
         subst⁻¹ (λ o. CompleteBy o (planBytes p))
         (along-start (p .found) (p .hold) (p .wait) _ (rules .first-take) (rules .first-release) (rules .first-let-go))

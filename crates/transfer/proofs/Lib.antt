@@ -13,3 +13,4 @@ pub mod Backward
 pub mod Shown
 pub mod Demand3
 pub mod Facts
+pub mod Attention

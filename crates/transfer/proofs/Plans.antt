@@ -3,14 +3,14 @@ use Rattle.answer.specs.Basics.{ℕ, zero, suc, _+_, _≤_, Bool, true, false, 
 use native.Mathlib.Omega.{arith}
 use mathlib.Core.Logic.{inl, inr}
 use mathlib.Core.Path.{refl, sym, ap, ap₂, _∙_, subst, subst⁻¹, subst₂}
-use Rattle.transfer.specs.{Types.Limits, Types.Byte, Phases.withBit, Demand3.Consistent}
-use Rattle.transfer.specs.Parties.{Pulls, nobody, held, clock, clockHeld, sets, offers, Bit, Frame, more, last, bitsTrack, frameTrack}
-use Rattle.transfer.specs.Parties.{bitsTicks, byteOf, afterFrame, sendingBytes}
+use Rattle.transfer.specs.{Types.Command, Types.Limits, Types.Byte, Phases.withBit, Demand3.Consistent}
+use Rattle.transfer.specs.Parties.{Pulls, nobody, held, clock, clockHeld, sets, offers, Bit, Frame, more, last, lastCommand, finishTick}
+use Rattle.transfer.specs.Parties.{bitsTrack, frameTrack, bitsTicks, byteOf, afterFrame, sendingBytes}
 use Rattle.transfer.specs.Rules.{lastOf, ReleaseRule, PlainRule, EndMarkRule, BitRules, HandoverRule, FrameRules}
 use Rattle.transfer.proofs.{HandoverTicks.handoverTicks, HandoverTicks.frame-ticks, ByteValue.takenIn, ByteValue.lastBit}
-use Rattle.transfer.proofs.{ByteValue.eight-bits}
-use Rattle.transfer.proofs.Shapes.{clockKept, Stays, First, Many, many, joined, Sends, AfterHold, HandsOver, Carries, Handover}
-use Rattle.transfer.proofs.Shapes.{opens, carries, Bits, AfterD}
+use Rattle.transfer.proofs.{ByteValue.eight-bits, Stages.plain-or-command}
+use Rattle.transfer.proofs.Shapes.{clockKept, Stays, First, Many, many, joined, Sends, AfterHold, releases, finishes, HandsOver, Carries}
+use Rattle.transfer.proofs.Shapes.{Handover, opens, carries, Bits, AfterD}
 
 -- l ticks with the sender on DATA, t with nobody on it, k with the receiver.
 pub handover-is : (l t k u n : ℕ) (js : List Pulls) → l + t ≡ u → u + k ≡ n
@@ -213,41 +213,70 @@ module _ (L : Limits) where
 
     sends-more : (now gap e : ℕ) (js js′ : List Pulls) (l : List Byte) → PlainRule L gap → now + gap ≡ e
         → js ≡ replicate gap nobody ++ js′ → FramePlan false e js′ l → Sends L now js l
-    sends-more now gap e js js′ l rule ends split f =
-        let w = many (f .after) in
-        let s = w .after in
-        record {
-          plan = more gap (f .frame) (w .count) (s .plan);
-          rules = (record { plain = rule; frame = f .rules; let-go = record { later = w .some } }, s .rules);
-          tidy = (f .tidy, s .tidy);
-          is =
-              split
-              ∙ ap (λ x. replicate gap nobody ++ x)
-              (f .is ∙ ap (frameTrack (f .frame)) (w .splits ∙ ap (λ x. replicate (w .count) held ++ x) (s .is)));
-          bytes =
-              f .bytes
-              ∙ ap (λ x. byteOf e (f .frame) ∷ x) (s .bytes)
-              ∙ ap₂ (λ (x y : ℕ). byteOf x (f .frame) ∷ sendingBytes y (s .plan)) (sym ends) (omega (arith, w .ends));
-        }
+    sends-more now gap e js js′ l rule ends split f = by-end (f .after)
+      where
+        by-end : AfterHold L false (afterFrame e (f .frame)) (f .rest) (f .others) → Sends L now js l
+        by-end (releases r) =
+            let w = many r in
+            let s = w .after in
+            record {
+              plan = more gap (f .frame) (w .count) (s .plan);
+              rules = (record { plain = rule; frame = f .rules; let-go = record { later = w .some } }, s .rules);
+              tidy = (f .tidy, s .tidy);
+              is =
+                  split
+                  ∙ ap (λ x. replicate gap nobody ++ x)
+                  (f .is ∙ ap (frameTrack (f .frame)) (w .splits ∙ ap (λ x. replicate (w .count) held ++ x) (s .is)));
+              bytes =
+                  f .bytes
+                  ∙ ap (λ x. byteOf e (f .frame) ∷ x) (s .bytes)
+                  ∙ ap₂ (λ (x y : ℕ). byteOf x (f .frame) ∷ sendingBytes y (s .plan)) (sym ends) (omega (arith, w .ends));
+            }
+        by-end (finishes command r) =
+            let s = r .after in
+            record {
+              plan = lastCommand gap (f .frame) (s .after);
+              rules = record { entry = command; plain = rule; frame = f .rules };
+              tidy = (f .tidy, s .tidy);
+              is =
+                  split
+                  ∙ ap (λ x. replicate gap nobody ++ x)
+                  (f .is ∙ ap (frameTrack (f .frame)) (r .splits ∙ ap (λ x. finishTick ∷ x) (s .is)));
+              bytes = f .bytes ∙ ap₂ (λ (x : ℕ) y. byteOf x (f .frame) ∷ y) (sym ends) (s .bytes);
+            }
+
+    -- Where there is room for an end mark, it is no command.
+    no-command : (gap : ℕ) → L .«end_mark» ≤ gap → gap ≤ L .«end_mark_latest» → L .entry ≡ Command → ⊥
+    no-command gap a b command = omega (arith, times .no-end-mark command)
 
     sends-last : (now gap ack resp e : ℕ) (js js′ : List Pulls) (l : List Byte) → EndMarkRule L gap ack resp → now + gap + ack + resp ≡ e
         → js ≡ replicate gap nobody ++ (replicate ack held ++ (replicate resp nobody ++ js′)) → FramePlan true e js′ l → Sends L now js l
-    sends-last now gap ack resp e js js′ l rule ends split f =
-        let w = many (f .after) in
-        let s = w .after in
-        record {
-          plan = last gap ack resp (f .frame) (w .count) (suc (s .after .count));
-          rules =
-              record { end-mark = rule; frame = f .rules; let-go = record { later = w .some }; silent = record { some = omega arith } };
-          tidy = f .tidy;
-          is =
-              split
-              ∙ ap (λ x. replicate gap nobody ++ (replicate ack held ++ (replicate resp nobody ++ x)))
-              (f .is
-              ∙ ap (frameTrack (f .frame))
-              (w .splits ∙ ap (λ x. replicate (w .count) held ++ x) (s .splits ∙ ap (λ x. nobody ∷ x) (s .after .is))));
-          bytes = f .bytes ∙ ap₂ (λ (x : ℕ) y. byteOf x (f .frame) ∷ y) (sym ends) (s .after .bytes);
-        }
+    sends-last now gap ack resp e js js′ l rule ends split f = by-end (f .after)
+      where
+        by-end : AfterHold L true (afterFrame e (f .frame)) (f .rest) (f .others) → Sends L now js l
+        by-end (releases r) =
+            let w = many r in
+            let s = w .after in
+            record {
+              plan = last gap ack resp (f .frame) (w .count) (suc (s .after .count));
+              rules =
+                  record {
+                    entry = plain-or-command (L .entry) (no-command gap (rule .gap-least) (rule .gap-most));
+                    end-mark = rule;
+                    frame = f .rules;
+                    let-go = record { later = w .some };
+                    silent = record { some = omega arith };
+                  };
+              tidy = f .tidy;
+              is =
+                  split
+                  ∙ ap (λ x. replicate gap nobody ++ (replicate ack held ++ (replicate resp nobody ++ x)))
+                  (f .is
+                  ∙ ap (frameTrack (f .frame))
+                  (w .splits ∙ ap (λ x. replicate (w .count) held ++ x) (s .splits ∙ ap (λ x. nobody ∷ x) (s .after .is))));
+              bytes = f .bytes ∙ ap₂ (λ (x : ℕ) y. byteOf x (f .frame) ∷ y) (sym ends) (s .after .bytes);
+            }
+        by-end (finishes command r) = absurd (no-command gap (rule .gap-least) (rule .gap-most) command)
 
     -- D, from the letting go on.
     pub sends : (now : ℕ) (js : List Pulls) (l : List Byte) → First nobody (Stays nobody (AfterD L now)) now js l → Sends L now js l

@@ -22,19 +22,19 @@ module _ (L : Limits) where
 
   -- One tick that shows l, and then the rest.
   module _ (l : Lines) (w : List Lines) (n now : ℕ)
-      (rest : (q : Phase) → settled q l ≡ true → 19 * handed (suc now) q w ≤ n + place q) where
-    one-move : (p : Phase) (x : Move) → Climbs now p l x
-        → 19 * length (onward x now (λ (q : Phase). run L (suc now) q w) .bytes) ≤ n + most p l
+      (rest : (q : Phase) → settled (L .entry) l q ≡ true → 19 * handed (suc now) q w ≤ n + place q) where
+    one-move : (p : Phase) (x : Move) → Climbs now p (settled (L .entry) l) x
+        → 19 * length (onward x now (λ (q : Phase). run L (suc now) q w) .bytes) ≤ n + most p (settled (L .entry) l)
     one-move p (Stop f) stops = omega arith
     one-move p (Go q) (goes a f e) = omega (arith, rest q e)
     one-move p (Hand b q) (hands a f e h t) = omega (arith, rest q e)
 
-    one-tick : (p : Phase) → 19 * handed now p (l ∷ w) ≤ n + most p l
+    one-tick : (p : Phase) → 19 * handed now p (l ∷ w) ≤ n + most p (settled (L .entry) l)
     unfolding run
     one-tick p = one-move p _ (climbs L now p l)
 
   -- Further ticks of a span, and then the rest.
-  same-lines : (k : ℕ) (l : Lines) (w : List Lines) (n : ℕ) → Fits w n → (now : ℕ) (p : Phase) → settled p l ≡ true
+  same-lines : (k : ℕ) (l : Lines) (w : List Lines) (n : ℕ) → Fits w n → (now : ℕ) (p : Phase) → settled (L .entry) l p ≡ true
       → 19 * handed now p (replicate k l ++ w) ≤ n + place p
   same-lines zero l w n f now p e = f now p
   same-lines (suc k) l w n f now p e =
@@ -51,7 +51,7 @@ module _ (L : Limits) where
       omega (
         arith,
         one-tick l (replicate k l ++ w) n now (λ q b. same-lines k l w n f (suc now) q b) p,
-        one-at-most (settled p l),
+        one-at-most (settled (L .entry) l p),
       )
 
   fits : (spans : List Span) → Fits (ticks spans) (length spans)

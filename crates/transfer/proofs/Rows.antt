@@ -1,15 +1,17 @@
 -- One walk over the rows of the table: how far each has come with its byte, and which lines it settles in. A row that goes on leads
 -- to a phase that its own lines keep, so that no row leads to `Decided`, and it comes one place further at most, not at all where
 -- the lines stay. Where it leads to the end, the finish tick is the tick itself or the one that stood. A byte that it hands over is
--- the one that the phase holds, and was taken by then. Assumes nothing.
+-- the one that the phase holds, and was taken by then. The same of the finish of commands.
+-- Assumes nothing.
 use Rattle.answer.specs.Basics.{ℕ, zero, suc, _+_, _-_, _*_, _≤_, _<_, Bool, true, false, not, _&&_, _≡_, eqb, ltb, leb, if_then_else_}
 use native.Mathlib.Omega.{arith}
-use mathlib.Core.Path.{refl}
+use mathlib.Core.Path.{refl, ap}
 use borrow.Author.Tests.{ltb-false, leb-false}
 use Rattle.transfer.specs.Phases.{below, upTo, Move, Go, Hand, Stop, next, same, handover, afterBit}
-use Rattle.transfer.specs.Moves.{Stage, Running, Ended, Fallen, stage, unlessFallen, move, heldByte}
-use Rattle.transfer.specs.Types.{Limits, Lines, Byte, Phase, Start, FirstHold, Hold, ReadyToSend, ReadyForData, Acknowledgement}
-use Rattle.transfer.specs.Types.{Acknowledged, SetUp, Valid, Open, Carried, End, Decided}
+use Rattle.transfer.specs.Moves.{Stage, Running, Holding, Ended, Past, Fallen, stage, finishing, released, heed, unlessFallen, move}
+use Rattle.transfer.specs.Moves.{heldByte}
+use Rattle.transfer.specs.Types.{Entry, Plain, Command, Limits, Lines, Byte, Phase, Start, FirstHold, Hold, ReadyToSend, ReadyForData, Acknowledgement}
+use Rattle.transfer.specs.Types.{Acknowledged, SetUp, Valid, Open, Carried, End, Finished, Decided}
 use Rattle.answer.specs.Types.{Fault, Attention}
 
 -- How far the reading of a byte has come: 19 places make a byte.
@@ -26,6 +28,7 @@ place (Valid end-mark value bit since bits-left) = 17 - 2 * bits-left
 place (Open end-mark value since let-go) = 18
 place (Carried end-mark value since) = 18
 place (End finish) = 0
+place (Finished finish) = 0
 place (Decided fault) = 0
 
 -- CLK and DATA in which a phase stays.
@@ -42,15 +45,23 @@ rests (Valid end-mark value bit since bits-left) c d = not c && same bit d
 rests (Open end-mark value since let-go) c d = c && not d
 rests (Carried end-mark value since) c d = c && d
 rests (End finish) c d = not c && not d
+rests (Finished finish) c d = false
 rests (Decided fault) c d = false
 
--- The lines in which a phase stays.
-abbrev pub settled : Phase → Lines → Bool
-settled p l = not (l .atn) && rests p (l .clk) (l .«data»)
+-- Whether commands are past their finish.
+abbrev pub isPast : Stage → Bool
+isPast Running = false
+isPast (Holding byte) = false
+isPast (Ended finish) = false
+isPast (Past finish) = true
+isPast (Fallen fault) = false
 
--- A tick with ATN released.
-abbrev pub lines : (clk dat : Bool) → Lines
-lines c d = record { atn = false; clk = c; «data» = d }
+-- The lines in which a phase stays.
+abbrev pub settled : Entry → Lines → Phase → Bool
+settled entry l p = heed entry (l .atn) false (rests p (l .clk) (l .«data»)) (isPast (stage p))
+
+abbrev pub lines : (atn clk dat : Bool) → Lines
+lines a c d = record { atn = a; clk = c; «data» = d }
 
 -- DATA that stays is the same.
 pub stays-same : (d : Bool) → same d d ≡ true
@@ -66,12 +77,16 @@ further false = 1
 -- The tick after the finish tick, for the end; and the latest that a row can lead to at tick `now`.
 abbrev pub finishedIn : Stage → ℕ
 finishedIn Running = 0
+finishedIn (Holding byte) = 0
 finishedIn (Ended finish) = suc finish
+finishedIn (Past finish) = suc finish
 finishedIn (Fallen fault) = 0
 
 abbrev pub latestIn : Stage → (now : ℕ) → ℕ
 latestIn Running now = suc now
+latestIn (Holding byte) now = suc now
 latestIn (Ended finish) now = suc finish
+latestIn (Past finish) now = suc finish
 latestIn (Fallen fault) now = suc now
 
 abbrev pub finished : Phase → ℕ
@@ -80,63 +95,63 @@ finished p = finishedIn (stage p)
 abbrev pub latest : Phase → (now : ℕ) → ℕ
 latest p now = latestIn (stage p) now
 
--- The highest place that a tick with these lines can lead to.
-abbrev pub most : Phase → Lines → ℕ
-most p l = place p + further (settled p l)
+-- The highest place that a tick can lead to that keeps those phases in which its lines stay.
+abbrev pub most : Phase → (stays : Phase → Bool) → ℕ
+most p stays = place p + further (stays p)
 
--- What a move does at tick `now`, in the phase p and by the lines l.
-pub data Climbs (now : ℕ) (p : Phase) (l : Lines) : Move → Type 0 where
-  stops : {f : Fault} → Climbs now p l (Stop f)
-  goes : {q : Phase} → place q ≤ most p l → finished q ≤ latest p now → settled q l ≡ true → Climbs now p l (Go q)
-  hands : {b : Byte} {q : Phase} → 19 + place q ≤ most p l → finished q ≤ latest p now → settled q l ≡ true → b ≡ heldByte p
-      → b .take ≤ now → Climbs now p l (Hand b q)
+-- What a move does at tick `now`, in the phase p and by lines in which `stays` says which phases stay.
+pub data Climbs (now : ℕ) (p : Phase) (stays : Phase → Bool) : Move → Type 0 where
+  stops : {f : Fault} → Climbs now p stays (Stop f)
+  goes : {q : Phase} → place q ≤ most p stays → finished q ≤ latest p now → stays q ≡ true → Climbs now p stays (Go q)
+  hands : {b : Byte} {q : Phase} → 19 + place q ≤ most p stays → finished q ≤ latest p now → stays q ≡ true
+      → b ≡ heldByte p → b .take ≤ now → Climbs now p stays (Hand b q)
 
-module _ {now : ℕ} {p : Phase} {l : Lines} where
-  on : (q : Phase) → place q ≤ most p l → finished q ≤ latest p now → settled q l ≡ true → Climbs now p l (Go q)
+module _ {now : ℕ} {p : Phase} {stays : Phase → Bool} where
+  on : (q : Phase) → place q ≤ most p stays → finished q ≤ latest p now → stays q ≡ true → Climbs now p stays (Go q)
   on q a f e = goes a f e
 
-  over : (q : Phase) → 19 + place q ≤ most p l → finished q ≤ latest p now → settled q l ≡ true → heldByte p .take ≤ now
-      → Climbs now p l (Hand (heldByte p) q)
+  over : (q : Phase) → 19 + place q ≤ most p stays → finished q ≤ latest p now → stays q ≡ true
+      → heldByte p .take ≤ now → Climbs now p stays (Hand (heldByte p) q)
   over q a f e t = hands a f e refl t
 
-  either : (t : Bool) (x y : Move) → Climbs now p l x → Climbs now p l y → Climbs now p l (if t then x else y)
+  either : (t : Bool) (x y : Move) → Climbs now p stays x → Climbs now p stays y → Climbs now p stays (if t then x else y)
   either true x y a b = a
   either false x y a b = b
 
-  if-below : (n s t : ℕ) (x y : Move) → Climbs now p l x → Climbs now p l y → Climbs now p l (if below n s t then x else y)
+  if-below : (n s t : ℕ) (x y : Move) → Climbs now p stays x → Climbs now p stays y → Climbs now p stays (if below n s t then x else y)
   if-below n s t x y a b = either (below n s t) x y a b
 
-  if-upTo : (n s t : ℕ) (x y : Move) → Climbs now p l x → Climbs now p l y → Climbs now p l (if upTo n s t then x else y)
+  if-upTo : (n s t : ℕ) (x y : Move) → Climbs now p stays x → Climbs now p stays y → Climbs now p stays (if upTo n s t then x else y)
   if-upTo n s t x y a b = either (upTo n s t) x y a b
 
-  unless-below : (n s : ℕ) (x y : Move) → Climbs now p l x → (s + n ≤ now → Climbs now p l y)
-      → Climbs now p l (if below n s now then x else y)
+  unless-below : (n s : ℕ) (x y : Move) → Climbs now p stays x → (s + n ≤ now → Climbs now p stays y)
+      → Climbs now p stays (if below n s now then x else y)
   unfolding below
   unless-below n s x y a b = by-test (ltb now (s + n)) refl
     where
-      by-test : (t : Bool) → ltb now (s + n) ≡ t → Climbs now p l (if t then x else y)
+      by-test : (t : Bool) → ltb now (s + n) ≡ t → Climbs now p stays (if t then x else y)
       by-test true e = a
       by-test false e = b (ltb-false now (s + n) e)
 
-  unless-upTo : (n s : ℕ) (x y : Move) → Climbs now p l x → (s + n < now → Climbs now p l y)
-      → Climbs now p l (if upTo n s now then x else y)
+  unless-upTo : (n s : ℕ) (x y : Move) → Climbs now p stays x → (s + n < now → Climbs now p stays y)
+      → Climbs now p stays (if upTo n s now then x else y)
   unfolding upTo
   unless-upTo n s x y a b = by-test (leb now (s + n)) refl
     where
-      by-test : (t : Bool) → leb now (s + n) ≡ t → Climbs now p l (if t then x else y)
+      by-test : (t : Bool) → leb now (s + n) ≡ t → Climbs now p stays (if t then x else y)
       by-test true e = a
       by-test false e = b (leb-false now (s + n) e)
 
-  if-same : (a b : Bool) (x y : Move) → (same a b ≡ true → Climbs now p l x) → Climbs now p l y
-      → Climbs now p l (if same a b then x else y)
+  if-same : (a b : Bool) (x y : Move) → (same a b ≡ true → Climbs now p stays x) → Climbs now p stays y
+      → Climbs now p stays (if same a b then x else y)
   if-same a b x y f g = by-test (same a b) refl
     where
-      by-test : (t : Bool) → same a b ≡ t → Climbs now p l (if t then x else y)
+      by-test : (t : Bool) → same a b ≡ t → Climbs now p stays (if t then x else y)
       by-test true e = f e
       by-test false e = g
 
 module _ (L : Limits) where
-  climbs-row : (now : ℕ) (p : Phase) (c d : Bool) → Climbs now p (lines c d) (next L now p c d)
+  climbs-row : (now : ℕ) (p : Phase) (c d : Bool) → Climbs now p (λ q. rests q c d) (next L now p c d)
   unfolding next handover afterBit
   climbs-row now Start false d = either (eqb now 0) _ _ stops stops
   climbs-row now Start true true = on _ (omega arith) (omega arith) refl
@@ -189,16 +204,56 @@ module _ (L : Limits) where
   climbs-row now (End finish) false false = on _ (omega arith) (omega arith) refl
   climbs-row now (End finish) false true = stops
   climbs-row now (End finish) true d = stops
+  climbs-row now (Finished finish) c d = stops
   climbs-row now (Decided fault) c d = stops
 
-  pub climbs : (now : ℕ) (p : Phase) (l : Lines) → Climbs now p l (move L now p l)
-  unfolding move
-  climbs now p l = by-test (stage p) (l .atn) (l .clk) (l .«data»)
+  -- The finish of commands.
+  climbs-finish : (now : ℕ) (p : Phase) (c d : Bool) → place p ≡ 18 → isPast (stage p) ≡ false → latest p now ≡ suc now
+      → Climbs now p (λ q. isPast (stage q)) (finishing (below (L .«between_bytes») (heldByte p .take) now) now (heldByte p) c d)
+  unfolding finishing below
+  climbs-finish now p c d e s f = by-test (ltb now (heldByte p .take + L .«between_bytes»)) refl c d
     where
-      by-test : (g : Stage) (a c d : Bool)
-          → Climbs now p (record { atn = a; clk = c; «data» = d }) (unlessFallen g (if a then Stop Attention else next L now p c d))
-      by-test Running true c d = stops
-      by-test Running false c d = climbs-row now p c d
-      by-test (Ended finish) true c d = stops
-      by-test (Ended finish) false c d = climbs-row now p c d
-      by-test (Fallen fault) a c d = stops
+      by-test : (t : Bool) → ltb now (heldByte p .take + L .«between_bytes») ≡ t → (c d : Bool)
+          → Climbs now p (λ q. isPast (stage q)) (finishing t now (heldByte p) c d)
+      by-test false h true true =
+          over _ (omega (arith, ap further s)) (omega arith) refl (omega (arith, ltb-false now (heldByte p .take + L .«between_bytes») h))
+      by-test false h true false = stops
+      by-test false h false d = stops
+      by-test true h c d = stops
+
+  climbs-released : (now : ℕ) (p : Phase) (c d : Bool) → Climbs now p (λ q. isPast (stage q)) (released L now (stage p) c d)
+  climbs-released now (Hold end-mark value take let-go) c d =
+      climbs-finish now (Hold end-mark value take let-go) c d refl refl refl
+  climbs-released now (Carried end-mark value since) c d =
+      climbs-finish now (Carried end-mark value since) c d refl refl refl
+  climbs-released now (Finished finish) c d = on _ (omega arith) (omega arith) refl
+  climbs-released now Start c d = stops
+  climbs-released now FirstHold c d = stops
+  climbs-released now (ReadyToSend some-handed ended) c d = stops
+  climbs-released now (ReadyForData some-handed since) c d = stops
+  climbs-released now (Acknowledgement some-handed since ready-tick) c d = stops
+  climbs-released now (Acknowledged some-handed since ready-tick) c d = stops
+  climbs-released now (SetUp end-mark value last since bits-left) c d = stops
+  climbs-released now (Valid end-mark value bit since bits-left) c d = stops
+  climbs-released now (Open end-mark value since let-go) c d = stops
+  climbs-released now (End finish) c d = stops
+  climbs-released now (Decided fault) c d = stops
+
+  -- A whole tick.
+  pub climbs : (now : ℕ) (p : Phase) (l : Lines) → Climbs now p (settled (L .entry) l) (move L now p l)
+  unfolding move
+  climbs now p l = by-stage (stage p) (heeded (L .entry) (l .atn) (l .clk) (l .«data»))
+    where
+      heeded : (entry : Entry) (a c d : Bool)
+          → Climbs now p (settled entry (lines a c d)) (heed entry a (Stop Attention) (next L now p c d) (released L now (stage p) c d))
+      heeded Plain true c d = stops
+      heeded Plain false c d = climbs-row now p c d
+      heeded Command true c d = climbs-row now p c d
+      heeded Command false c d = climbs-released now p c d
+
+      by-stage : (g : Stage) {stays : Phase → Bool} {does : Move} → Climbs now p stays does → Climbs now p stays (unlessFallen g does)
+      by-stage Running here = here
+      by-stage (Holding byte) here = here
+      by-stage (Ended finish) here = here
+      by-stage (Past finish) here = here
+      by-stage (Fallen fault) here = stops

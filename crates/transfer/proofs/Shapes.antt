@@ -4,10 +4,10 @@ use Rattle.answer.specs.Basics.{ℕ, zero, suc, _+_, _≤_, _<_, Bool, true, fa
 use native.Mathlib.Omega.{arith}
 use mathlib.Core.{Path.refl, Path.ap, Path._∙_, Logic._⊎_}
 use Rattle.transfer.specs.{Phases.withBit, Rules.lastOf, Rules.SendingRules}
-use Rattle.transfer.specs.Parties.{Pulls, pulls, nobody, held, clock, clockHeld, sets, offers, Sending, more, last, sendingTrack}
-use Rattle.transfer.specs.Parties.{sendingBytes}
-use Rattle.transfer.specs.Types.{Limits, Byte, Phase, Start, FirstHold, Hold, ReadyToSend, ReadyForData, Acknowledgement}
-use Rattle.transfer.specs.Types.{Acknowledged, SetUp, Valid, Open, Carried, End, Decided}
+use Rattle.transfer.specs.Parties.{Pulls, pulls, nobody, held, clock, clockHeld, sets, offers, Free, Sending, more, last, lastCommand}
+use Rattle.transfer.specs.Parties.{finishTick, freeTick, sendingTrack, sendingBytes}
+use Rattle.transfer.specs.Types.{Command, Limits, Byte, Phase, Start, FirstHold, Hold, ReadyToSend, ReadyForData, Acknowledgement}
+use Rattle.transfer.specs.Types.{Acknowledged, SetUp, Valid, Open, Carried, End, Finished, Decided}
 
 -- The sender pulls CLK and keeps DATA.
 abbrev pub clockKept : Pulls
@@ -78,10 +78,16 @@ module _ {p : Pulls} {K : Rest} {now : ℕ} {js : List Pulls} {l : List Byte} wh
       let s = many f in
       record { count = s .count; till = s .till; rest = s .rest; ends = s .ends; splits = s .splits; after = s .after }
 
--- A plan in which the sender has let go when the receiver takes.
+-- Ticks after the finish in which the sender keeps off DATA.
+abbrev pub KeepsOff : List Free → Type 0
+KeepsOff [] = Unit {0}
+KeepsOff (x ∷ after) = (x .sender ≡ false) × KeepsOff after
+
+-- A plan in which the sender has let go when the receiver takes, and keeps off DATA after the finish.
 abbrev pub Tidy : Sending → Type 0
 Tidy (more gap f wait rest) = (f .let-go ≤ f .take) × Tidy rest
 Tidy (last gap acknowledgement response f wait silence) = f .let-go ≤ f .take
+Tidy (lastCommand gap f after) = (f .let-go ≤ f .take) × KeepsOff after
 
 module _ (L : Limits) where
   -- The rest is what a plan that keeps the rules sends from here on.
@@ -98,14 +104,22 @@ module _ (L : Limits) where
     pub is : js ≡ replicate count nobody
     pub bytes : l ≡ []
 
+  -- After the finish of commands.
+  pub record Frees (now : ℕ) (js : List Pulls) (l : List Byte) : Type 0 where
+    pub after : List Free
+    pub tidy : KeepsOff after
+    pub is : js ≡ map freeTick after
+    pub bytes : l ≡ []
+
   -- After C: the end, or a further byte.
   abbrev pub AfterC : (ended : Bool) → Rest
   AfterC true now js l = First nobody Silent now js l
   AfterC false now js l = Sends now js l
 
-  -- After a hold: the release of CLK, and C.
-  abbrev pub AfterHold : (end-mark : Bool) → Rest
-  AfterHold end-mark = First held (Stays held (AfterC end-mark))
+  -- After a hold: the release of CLK, and C; or the finish of commands.
+  pub data AfterHold (end-mark : Bool) (now : ℕ) (js : List Pulls) (l : List Byte) : Type 0 where
+    releases : First held (Stays held (AfterC end-mark)) now js l → AfterHold end-mark now js l
+    finishes : L .entry ≡ Command → First finishTick Frees now js l → AfterHold end-mark now js l
 
   -- b is handed over, `earliest` or later.
   pub record HandsOver (b : Byte) (end-mark : Bool) (earliest : ℕ) (now : ℕ) (js : List Pulls) (l : List Byte) : Type 0 where
@@ -190,4 +204,5 @@ module _ (L : Limits) where
   Shape (Open end-mark value since let-go) = Opened end-mark value since let-go
   Shape (Carried end-mark value since) = Carries end-mark value since
   Shape (End finish) = Silent
+  Shape (Finished finish) = Frees
   Shape (Decided fault) = λ now js l. ⊥

@@ -1,24 +1,27 @@
--- What the stage tells of a phase, and what keeps one running. Assumes nothing.
-use Rattle.answer.specs.Basics.{ℕ, Bool, true, false, not, _&&_, _≡_, if_then_else_}
+-- What the stage tells of a phase, what keeps one running, and what ATN leaves of a tick. Assumes nothing.
+use Rattle.answer.specs.Basics.{ℕ, Bool, true, false, _≡_}
 use mathlib.Core.Bool.{false≢true}
-use mathlib.Core.Path.{refl, sym, ap, subst, subst⁻¹}
+use mathlib.Core.Path.{refl, sym, ap, _∙_, subst, subst⁻¹}
 use Rattle.answer.specs.Types.{Fault, Attention}
-use Rattle.transfer.specs.Phases.{Stop, next}
-use Rattle.transfer.specs.Moves.{Stage, Running, Ended, Fallen, stage, hasFallen, isDecided, unlessFallen, move}
-use Rattle.transfer.specs.Types.{Limits, Lines, Phase, Start, FirstHold, Hold, ReadyToSend, ReadyForData, Acknowledgement}
-use Rattle.transfer.specs.Types.{Acknowledged, SetUp, Valid, Open, Carried, End, Decided}
+use Rattle.transfer.specs.Phases.{Move, Stop, next}
+use Rattle.transfer.specs.Moves.{Stage, Running, Holding, Ended, Past, Fallen, stage, hasFallen, isDecided, released, heed, unlessFallen}
+use Rattle.transfer.specs.{Moves.move, Parties.underWay}
+use Rattle.transfer.specs.Types.{Entry, Plain, Command, Limits, Lines, Byte, Phase, Start, FirstHold, Hold, ReadyToSend, ReadyForData}
+use Rattle.transfer.specs.Types.{Acknowledgement, Acknowledged, SetUp, Valid, Open, Carried, End, Finished, Decided}
 use Rattle.transfer.proofs.Rows.{settled, lines}
 
--- The one list of all phases that says which is E and which is a verdict.
+-- The one list of all phases that says which is E, which follows the finish of commands and which is a verdict.
 pub data Told (p : Phase) : Type 0 where
   is-running : stage p ≡ Running → Told p
+  is-holding : (byte : Byte) → stage p ≡ Holding byte → Told p
   is-end : (finish : ℕ) → p ≡ End finish → Told p
+  is-past : (finish : ℕ) → p ≡ Finished finish → Told p
   is-decided : (fault : Fault) → p ≡ Decided fault → Told p
 
 pub told : (p : Phase) → Told p
 told Start = is-running refl
 told FirstHold = is-running refl
-told (Hold end-mark value take let-go) = is-running refl
+told (Hold end-mark value take let-go) = is-holding _ refl
 told (ReadyToSend some-handed ended) = is-running refl
 told (ReadyForData some-handed since) = is-running refl
 told (Acknowledgement some-handed since ready-tick) = is-running refl
@@ -26,42 +29,76 @@ told (Acknowledged some-handed since ready-tick) = is-running refl
 told (SetUp end-mark value last since bits-left) = is-running refl
 told (Valid end-mark value bit since bits-left) = is-running refl
 told (Open end-mark value since let-go) = is-running refl
-told (Carried end-mark value since) = is-running refl
+told (Carried end-mark value since) = is-holding _ refl
 told (End finish) = is-end finish refl
+told (Finished finish) = is-past finish refl
 told (Decided fault) = is-decided fault refl
 
--- A phase that some lines settle is not decided.
-pub undecided : (p : Phase) (l : Lines) → settled p l ≡ true → isDecided p ≡ false
-undecided p l e = by-stage (told p)
+pub plain-is-no-command : Plain ≡ Command → ⊥
+plain-is-no-command e = false≢true (ap isCommand e)
   where
-    decided-not : (a : Bool) → (not a && false) ≡ true → ⊥
-    decided-not true e = false≢true e
-    decided-not false e = false≢true e
+    isCommand : Entry → Bool
+    isCommand Plain = false
+    isCommand Command = true
+
+pub plain-or-command : (entry : Entry) → (entry ≡ Command → ⊥) → entry ≡ Plain
+plain-or-command Plain never = refl
+plain-or-command Command never = absurd (never refl)
+
+-- A phase that some lines settle is not decided.
+pub undecided : (entry : Entry) (p : Phase) (l : Lines) → settled entry l p ≡ true → isDecided p ≡ false
+undecided entry p l e = by-stage (told p)
+  where
+    decided-not : (entry : Entry) (a : Bool) → heed entry a false false false ≡ true → ⊥
+    decided-not Plain true e = false≢true e
+    decided-not Plain false e = false≢true e
+    decided-not Command true e = false≢true e
+    decided-not Command false e = false≢true e
 
     by-stage : Told p → isDecided p ≡ false
     by-stage (is-running r) = ap hasFallen r
+    by-stage (is-holding byte r) = ap hasFallen r
     by-stage (is-end finish r) = ap isDecided r
-    by-stage (is-decided fault r) = absurd (decided-not (l .atn) (subst (λ (q : Phase). settled q l ≡ true) r e))
+    by-stage (is-past finish r) = ap isDecided r
+    by-stage (is-decided fault r) = absurd (decided-not entry (l .atn) (subst (λ (q : Phase). settled entry l q ≡ true) r e))
 
--- A tick in a phase that is not decided: ATN, then the rows.
+-- A tick in a phase that is not decided: what ATN means, then the rows.
 pub undecided-move : (L : Limits) (now : ℕ) (p : Phase) (l : Lines) → isDecided p ≡ false
-    → move L now p l ≡ (if l .atn then Stop Attention else next L now p (l .clk) (l .«data»))
+    → move L now p l
+    ≡ heed (L .entry) (l .atn) (Stop Attention) (next L now p (l .clk) (l .«data»)) (released L now (stage p) (l .clk) (l .«data»))
 unfolding move
-undecided-move L now p l = by-stage (stage p)
+undecided-move L now p l = by-stage (stage p) _
   where
-    by-stage : (g : Stage) → hasFallen g ≡ false
-        → unlessFallen g (if l .atn then Stop Attention else next L now p (l .clk) (l .«data»))
-        ≡ (if l .atn then Stop Attention else next L now p (l .clk) (l .«data»))
-    by-stage Running u = refl
-    by-stage (Ended finish) u = refl
-    by-stage (Fallen fault) u = absurd (false≢true (sym u))
+    by-stage : (g : Stage) (does : Move) → hasFallen g ≡ false → unlessFallen g does ≡ does
+    by-stage Running does u = refl
+    by-stage (Holding byte) does u = refl
+    by-stage (Ended finish) does u = refl
+    by-stage (Past finish) does u = refl
+    by-stage (Fallen fault) does u = absurd (false≢true (sym u))
 
--- A tick with ATN released does what the rows say.
-pub released-move : (L : Limits) (now : ℕ) (p : Phase) (c d : Bool) → move L now p (lines c d) ≡ next L now p c d
+-- A tick with ATN as it is while the transfer goes on does what the rows say.
+pub under-way-move : (L : Limits) (now : ℕ) (p : Phase) (c d : Bool) → move L now p (lines (underWay (L .entry)) c d) ≡ next L now p c d
 unfolding move next
-released-move L now p c d = by-stage (told p)
+under-way-move L now p c d = by-stage (told p)
   where
-    by-stage : Told p → move L now p (lines c d) ≡ next L now p c d
-    by-stage (is-running r) = ap (λ (g : Stage). unlessFallen g (next L now p c d)) r
-    by-stage (is-end finish r) = ap (λ (q : Phase). unlessFallen (stage q) (next L now p c d)) r
-    by-stage (is-decided fault r) = subst⁻¹ (λ (q : Phase). move L now q (lines c d) ≡ next L now q c d) r refl
+    heeded : (entry : Entry) (x y z : Move) → heed entry (underWay entry) x y z ≡ y
+    heeded Plain x y z = refl
+    heeded Command x y z = refl
+
+    rows : isDecided p ≡ false → move L now p (lines (underWay (L .entry)) c d) ≡ next L now p c d
+    rows u = undecided-move L now p (lines (underWay (L .entry)) c d) u ∙ heeded (L .entry) _ _ _
+
+    by-stage : Told p → move L now p (lines (underWay (L .entry)) c d) ≡ next L now p c d
+    by-stage (is-running r) = rows (ap hasFallen r)
+    by-stage (is-holding byte r) = rows (ap hasFallen r)
+    by-stage (is-end finish r) = rows (ap isDecided r)
+    by-stage (is-past finish r) = rows (ap isDecided r)
+    by-stage (is-decided fault r) =
+        subst⁻¹ (λ (q : Phase). move L now q (lines (underWay (L .entry)) c d) ≡ next L now q c d) r refl
+
+-- A tick of commands with ATN released.
+pub released-move : (L : Limits) (now : ℕ) (p : Phase) (c d : Bool) → L .entry ≡ Command → isDecided p ≡ false
+    → move L now p (lines false c d) ≡ released L now (stage p) c d
+released-move L now p c d command u =
+    undecided-move L now p (lines false c d) u
+    ∙ ap (λ (entry : Entry). heed entry false (Stop Attention) (next L now p c d) (released L now (stage p) c d)) command

@@ -1,15 +1,18 @@
 -- Demand 3 over tick lists.
 use Rattle.answer.specs.Basics.{ℕ, suc, _+_, _≤_, _<_, Bool, List, map, _≡_, _↔_}
-use Rattle.transfer.specs.{Types.Limits, Types.Lines, Types.Byte, Limits.standardLimits, Outcome.outcome, Shown.shown}
-use Rattle.transfer.specs.Pair.{SenderPulls, senderPulls, receiverPulls, gives, values, Pair, SameOrLater}
+use Rattle.transfer.specs.{Types.Command, Types.Limits, Types.Lines, Types.Byte, Limits.standardLimits, Limits.forCommands}
+use Rattle.transfer.specs.{Limits.commandLimits, Outcome.outcome, Shown.shown}
+use Rattle.transfer.specs.Pair.{SenderPulls, senderPulls, receiverPulls, attentionTrack, gives, values, Pair, SameOrLater}
 use Rattle.answer.specs.Types.{Complete}
 
 -- What the times have to keep among themselves.
 pub record Consistent (L : Limits) : Type 0 where
-  -- D: the gap before an end mark lasts a tick at the least.
-  pub end-mark : 1 ≤ L .«end_mark»
+  -- D: the gap before a byte without an end mark lasts a tick at the least.
+  pub end-mark : 2 ≤ L .«end_mark»
   -- D lasts as long as a byte without an end mark may begin.
   pub end-mark-in-time : L .«end_mark» ≤ suc (L .«end_mark_latest»)
+  -- For commands no longer: they have no end mark.
+  pub no-end-mark : L .entry ≡ Command → L .«end_mark_latest» < L .«end_mark»
   -- D lasts a tick at the least.
   pub ready-for-data : 1 ≤ L .«end_mark_latest»
   -- F: an acknowledgement lasts a tick at the least, and has time to be long enough.
@@ -37,7 +40,7 @@ module _ (L : Limits) (w : List Lines) where
   -- Two tracks are a pair for the string, dated so, and give the tick list.
   pub record Explains (string : List ℕ) (sender : List SenderPulls) (receiver : List Bool) (dated : List Byte) : Type 0 where
     pub pair : Pair L string sender receiver dated
-    pub gives-it : gives sender receiver ≡ w
+    pub gives-it : gives (attentionTrack (L .entry) (pair .plan)) sender receiver ≡ w
 
   -- Some rule-keeping sender and receiver could have made the tick list.
   pub record Explained (string : List ℕ) : Type 0 where
@@ -69,9 +72,16 @@ module _ (L : Limits) (w : List Lines) where
   abbrev pub OutcomeDemand3 : Type 0
   OutcomeDemand3 = Demand3 (outcome L w .decision .verdict ≡ Complete) CompleteWith (λ string. outcome L w .bytes)
 
--- For every tick list and all times that are consistent; and at document 01's own.
+-- For every tick list and all times that are consistent, of either entry; and at document 01's own, for data and for commands.
 abbrev pub Demand3Law : Type 0
 Demand3Law = (L : Limits) → Consistent L → (w : List Lines) → OutcomeDemand3 L w
 
 abbrev pub StandardDemand3 : Type 0
 StandardDemand3 = (w : List Lines) → OutcomeDemand3 standardLimits w
+
+abbrev pub CommandDemand3 : Type 0
+CommandDemand3 = (w : List Lines) → OutcomeDemand3 commandLimits w
+
+-- Times that are consistent are so for commands too.
+abbrev pub CommandsConsistent : Type 0
+CommandsConsistent = (L : Limits) → Consistent L → Consistent (forCommands L)

@@ -1,7 +1,7 @@
 -- A pair of a sender and a receiver for a string, what it gives, and its two ticks for each byte.
-use Rattle.answer.specs.Basics.{ℕ, _≤_, Bool, false, _||_, List, [], _∷_, map, _≡_}
-use Rattle.transfer.specs.{Types.Limits, Types.Lines, Types.Byte, Rules.PlanRules}
-use Rattle.transfer.specs.Parties.{Pulls, pulls, Plan, track, planBytes}
+use Rattle.answer.specs.Basics.{ℕ, _≤_, Bool, _||_, List, [], _∷_, map, _≡_}
+use Rattle.transfer.specs.{Types.Entry, Types.Limits, Types.Lines, Types.Byte, Rules.PlanRules}
+use Rattle.transfer.specs.Parties.{Pulls, pulls, past, attention, Plan, track, planBytes}
 
 -- A sender track has CLK and DATA pulls at each tick, a receiver track DATA pulls.
 pub record SenderPulls : Type 0 where
@@ -10,9 +10,11 @@ pub record SenderPulls : Type 0 where
 
 abbrev pub senderPulls : Pulls → SenderPulls
 senderPulls (pulls clk sender receiver) = record { clk = clk; «data» = sender }
+senderPulls (past clk sender receiver) = record { clk = clk; «data» = sender }
 
 abbrev pub receiverPulls : Pulls → Bool
 receiverPulls (pulls clk sender receiver) = receiver
+receiverPulls (past clk sender receiver) = receiver
 
 abbrev pub senderTrack : Plan → List SenderPulls
 senderTrack p = map senderPulls (track p)
@@ -20,13 +22,18 @@ senderTrack p = map senderPulls (track p)
 abbrev pub receiverTrack : Plan → List Bool
 receiverTrack p = map receiverPulls (track p)
 
--- "The pair gives the recording if ATN is released, CLK is the sender's and DATA is pulled exactly when either pulls."
--- Both tracks of a pair come from one plan, so they are of one length.
-abbrev pub gives : List SenderPulls → List Bool → List Lines
-gives [] receiver = []
-gives (s ∷ sender) [] = []
-gives (s ∷ sender) (r ∷ receiver) =
-    record { atn = false; clk = s .clk; «data» = r || s .«data» } ∷ gives sender receiver
+-- ATN beside the two tracks.
+abbrev pub attentionTrack : Entry → Plan → List Bool
+attentionTrack entry p = map (attention entry) (track p)
+
+-- "The pair gives the recording if ATN is released", or for commands as #101 has it, "CLK is the sender's and DATA is pulled exactly when
+-- either pulls." All tracks of a pair come from one plan, so they are of one length.
+abbrev pub gives : (atn : List Bool) → List SenderPulls → List Bool → List Lines
+gives [] sender receiver = []
+gives (a ∷ atn) [] receiver = []
+gives (a ∷ atn) (s ∷ sender) [] = []
+gives (a ∷ atn) (s ∷ sender) (r ∷ receiver) =
+    record { atn = a; clk = s .clk; «data» = r || s .«data» } ∷ gives atn sender receiver
 
 abbrev pub values : List Byte → List ℕ
 values bytes = map (λ (b : Byte). b .value) bytes

@@ -1,11 +1,21 @@
--- "The two parties' own rules" of document 01: what a sender and a receiver choose, and the tracks that this makes.
+-- "The two parties' own rules" of document 01, and #101's for commands: what a sender and a receiver choose, and the tracks that this makes.
 -- Nothing here comes from the judge's phases: the two share the times, what a tick shows and the ledger's record alone.
 use Rattle.answer.specs.Basics.{ℕ, zero, suc, _+_, Bool, true, false, List, [], _∷_, _++_, map, length, replicate, ltb, leb, if_then_else_}
-use Rattle.transfer.specs.Types.{Byte}
+use Rattle.transfer.specs.Types.{Entry, Plain, Command, Byte}
 
--- One tick of both tracks: the sender's CLK and DATA pulls, the receiver's DATA pull.
+-- One tick of both tracks: the sender's CLK and DATA pulls, the receiver's DATA pull. `past` is one from the finish of commands on.
 pub data Pulls : Type 0 where
   pulls : (clk sender receiver : Bool) → Pulls
+  past : (clk sender receiver : Bool) → Pulls
+
+-- ATN while a transfer goes on: "ATN released throughout"; commands: "ATN is pulled until the finish and released from it on".
+abbrev pub underWay : Entry → Bool
+underWay Plain = false
+underWay Command = true
+
+abbrev pub attention : Entry → Pulls → Bool
+attention entry (pulls clk sender receiver) = underWay entry
+attention entry (past clk sender receiver) = false
 
 -- The ticks that tracks are made of, beside those of a handover. "No other pulls occur."
 -- Nobody pulls; the receiver pulls DATA.
@@ -38,19 +48,27 @@ pub record Bit : Type 0 where
   pub valid : ℕ
 
 -- A byte as it is sent: its bits, then, counted from the CLK pull after bit 8, the offsets of the sender's letting go of DATA (0 where it
--- doesn't pull on), of the receiver's take and of the sender's release of CLK.
+-- doesn't pull on), of the receiver's take and of the sender's release of CLK, or of the finish of commands.
 pub record Frame : Type 0 where
   pub bits : List Bit
   pub let-go : ℕ
   pub take : ℕ
   pub release : ℕ
 
+-- "What CLK and DATA show after [the finish] binds nobody": each tick there is free.
+pub record Free : Type 0 where
+  pub clk : Bool
+  pub sender : Bool
+  pub receiver : Bool
+
 -- From a letting go on: the ticks to the CLK pull, a byte that is not the last, the ticks until the receiver lets go, and what follows;
 -- or the last byte: the ticks to the receiver's pull, those of the pull, those to the CLK pull, the byte, the ticks until the receiver
--- lets go, and those from this last letting go on.
+-- lets go, and those from this last letting go on; or the last byte of commands: the ticks to the CLK pull, the byte, and what both pull in
+-- each tick after the finish.
 pub data Sending : Type 0 where
   more : (gap : ℕ) → Frame → (wait : ℕ) → Sending → Sending
   last : (gap acknowledgement response : ℕ) → Frame → (wait silence : ℕ) → Sending
+  lastCommand : (gap : ℕ) → Frame → (after : List Free) → Sending
 
 -- The receiver takes DATA at tick `found`; the sender releases CLK `hold` ticks later; the receiver lets go `wait` ticks later.
 pub record Plan : Type 0 where
@@ -80,6 +98,13 @@ handoverTrack let-go take offset (suc n) = handoverTick let-go take offset ∷ h
 abbrev pub frameTrack : Frame → List Pulls → List Pulls
 frameTrack f rest = bitsTrack (f .bits) (handoverTrack (f .let-go) (f .take) 0 (f .release) ++ rest)
 
+-- The finish: "both still hold their lines in that tick".
+abbrev pub finishTick : Pulls
+finishTick = past true false true
+
+abbrev pub freeTick : Free → Pulls
+freeTick x = past (x .clk) (x .sender) (x .receiver)
+
 abbrev pub sendingTrack : Sending → List Pulls
 sendingTrack (more gap f wait rest) = replicate gap nobody ++ frameTrack f (replicate wait held ++ sendingTrack rest)
 sendingTrack (last gap acknowledgement response f wait silence) =
@@ -87,6 +112,7 @@ sendingTrack (last gap acknowledgement response f wait silence) =
     ++ (replicate acknowledgement held
     ++ (replicate response nobody
     ++ frameTrack f (replicate wait held ++ replicate silence nobody)))
+sendingTrack (lastCommand gap f after) = replicate gap nobody ++ frameTrack f (finishTick ∷ map freeTick after)
 
 -- Both tracks, from tick 0 on.
 abbrev pub track : Plan → List Pulls
@@ -115,13 +141,14 @@ byteOf now f =
       take = now + bitsTicks (f .bits) + f .take;
     }
 
--- The tick of the release of CLK that ends a byte.
+-- The tick of the release of CLK that ends a byte, or of the finish.
 abbrev pub afterFrame : (now : ℕ) → Frame → ℕ
 afterFrame now f = now + bitsTicks (f .bits) + f .release
 
 abbrev pub sendingBytes : (now : ℕ) → Sending → List Byte
 sendingBytes now (more gap f wait rest) = byteOf (now + gap) f ∷ sendingBytes (afterFrame (now + gap) f + wait) rest
 sendingBytes now (last gap acknowledgement response f wait silence) = byteOf (now + gap + acknowledgement + response) f ∷ []
+sendingBytes now (lastCommand gap f after) = byteOf (now + gap) f ∷ []
 
 -- The bytes that a plan sends, each with its two ticks.
 abbrev pub planBytes : Plan → List Byte

@@ -1,12 +1,12 @@
--- "The judge's phases" of document 01: what a tick with ATN released does in each phase, row by row, in the paper's order.
+-- "The judge's phases" of document 01: what a tick that ATN leaves to them does in each phase, row by row, in the paper's order.
 -- Lines stand as (CLK, DATA), true when pulled; `now` is the tick. A clause below is a row there; where a row has two
 -- answers by the time, the clause has an `if`. `L` holds the times.
 use Rattle.answer.specs.Basics.{ℕ, zero, suc, _+_, _/_, Bool, true, false, not, eqb, ltb, leb, if_then_else_}
-use Rattle.transfer.specs.Types.{Limits, Byte, Phase, Start, FirstHold, Hold, ReadyToSend, ReadyForData, Acknowledgement}
-use Rattle.transfer.specs.Types.{Acknowledged, SetUp, Valid, Open, Carried, End, Decided}
+use Rattle.transfer.specs.Types.{Entry, Plain, Command, Limits, Byte, Phase, Start, FirstHold, Hold, ReadyToSend, ReadyForData, Acknowledgement}
+use Rattle.transfer.specs.Types.{Acknowledged, SetUp, Valid, Open, Carried, End, Finished, Decided}
 use Rattle.answer.specs.Types.{Fault, EmptyStream, NoReceiver, BadStart, OutOfTurn, EndMarkNotAcknowledged, AcknowledgementShort}
 use Rattle.answer.specs.Types.{AcknowledgementLong, LateClock, SenderTimeout, ValidTimeShort, DataMoved, ClockStall, ReceiverTimeout}
-use Rattle.answer.specs.Types.{Hurried, MovedAfterEnd}
+use Rattle.answer.specs.Types.{Hurried, MovedAfterEnd, EndMarkUnderAttention}
 
 -- What one tick does: go to a phase or stay in it, hand a byte over and go to a phase, or decide.
 pub data Move : Type 0 where
@@ -46,6 +46,11 @@ unfoldable pub afterBit : (bits-left : ℕ) → Move → (ℕ → Move) → Move
 afterBit zero last more = last
 afterBit (suc bits-left) last more = more bits-left
 
+-- D lasted too long: an end mark that nobody acknowledged, or for commands, which have none, "38 (end mark under attention)".
+abbrev pub longSilence : Entry → Fault
+longSilence Plain = EndMarkNotAcknowledged
+longSilence Command = EndMarkUnderAttention
+
 unfoldable pub next : Limits → (now : ℕ) → Phase → (clk dat : Bool) → Move
 -- A start. "Tick 0 with CLK released: 25. CLK released later: 26."
 next L now Start false d = if eqb now 0 then Stop BadStart else Stop OutOfTurn
@@ -80,9 +85,9 @@ next L now (ReadyForData some-handed since) true d =
 -- "(0,1) before offset 200: 26. (0,1) at 200 to 290 (H above 200): go to F, end mark."
 next L now (ReadyForData some-handed since) false true =
     if below (L .«end_mark») since now then Stop OutOfTurn else Go (Acknowledgement some-handed now since)
--- "(0,0): stay; at offset 290 it is 27."
+-- "(0,0): stay; at offset 290 it is 27." Commands: "in D, (0,0) at offset 199 gives 38".
 next L now (ReadyForData some-handed since) false false =
-    if below (L .«end_mark_latest») since now then Go (ReadyForData some-handed since) else Stop EndMarkNotAcknowledged
+    if below (L .«end_mark_latest») since now then Go (ReadyForData some-handed since) else Stop (longSilence (L .entry))
 -- F acknowledgement. "CLK pulled: 26."
 next L now (Acknowledgement some-handed since ready-tick) true d = Stop OutOfTurn
 -- "(0,1): stay; at offset 150 (H) it is 29."
@@ -137,5 +142,7 @@ next L now (Carried end-mark value since) false true =
 next L now (End finish) false false = Go (End finish)
 next L now (End finish) false true = Stop MovedAfterEnd
 next L now (End finish) true d = Stop MovedAfterEnd
+-- After the finish of commands "only a pull of ATN matters: 37". `move` leaves no other tick to this row.
+next L now (Finished finish) c d = Stop MovedAfterEnd
 -- A verdict stands. `move` sees to it before this table is asked.
 next L now (Decided fault) c d = Stop fault

@@ -1,8 +1,8 @@
--- The rules that both parties keep: the bullets of "The two parties' own rules", in their order, and then what they ask of a byte,
--- of a sending and of a plan. "Every change is dated by the first tick that shows it."
+-- The rules that both parties keep: the bullets of "The two parties' own rules", in their order, with #101's words for commands beside
+-- them, and then what they ask of a byte, of a sending and of a plan. "Every change is dated by the first tick that shows it."
 use Rattle.answer.specs.Basics.{ℕ, suc, _+_, _≤_, _<_, Bool, false, List, [], _∷_, map, length, _≡_}
-use Rattle.transfer.specs.Types.{Limits}
-use Rattle.transfer.specs.Parties.{Bit, Frame, Sending, more, last, Plan}
+use Rattle.transfer.specs.Types.{Plain, Command, Limits}
+use Rattle.transfer.specs.Parties.{Bit, Frame, Sending, more, last, lastCommand, Plan}
 
 -- The last of d and what follows it.
 abbrev pub lastOf : Bool → List Bool → Bool
@@ -22,7 +22,8 @@ module _ (L : Limits) where
   pub record FirstReleaseRule (hold : ℕ) : Type 0 where
     pub after-take : 1 ≤ hold
 
-  -- ".. for later bytes, and after the last, 100 or more after the latest take."
+  -- ".. for later bytes, and after the last, 100 or more after the latest take." Commands: "the finish .. comes 100 or more ticks after
+  -- the latest take".
   pub record ReleaseRule (take release : ℕ) : Type 0 where
     pub after-take : take + L .«between_bytes» ≤ release
 
@@ -30,7 +31,8 @@ module _ (L : Limits) where
   pub record LetGoRule (wait : ℕ) : Type 0 where
     pub later : 1 ≤ wait
 
-  -- "Not the last byte: the sender pulls CLK 1 to 199 ticks after the letting go."
+  -- "Not the last byte: the sender pulls CLK 1 to 199 ticks after the letting go." Commands: "the CLK pull before the last byte's bits
+  -- keeps the 1 to 199".
   pub record PlainRule (gap : ℕ) : Type 0 where
     pub least : 1 ≤ gap
     pub most : gap < L .«end_mark»
@@ -73,7 +75,7 @@ module _ (L : Limits) where
   pub record SilenceRule (silence : ℕ) : Type 0 where
     pub some : 1 ≤ silence
 
-  -- A byte keeps the rules of its bits, of its handover and of the release after it.
+  -- A byte keeps the rules of its bits, of its handover and of the release, or the finish, after it.
   pub record FrameRules (f : Frame) : Type 0 where
     pub bits : EightBitsRule (f .bits)
     pub handover : HandoverRule (bitEight (f .bits)) (f .let-go) (f .take)
@@ -84,15 +86,25 @@ module _ (L : Limits) where
     pub frame : FrameRules f
     pub let-go : LetGoRule wait
 
+  -- So ends a data transfer.
   pub record LastRules (gap acknowledgement response : ℕ) (f : Frame) (wait silence : ℕ) : Type 0 where
+    pub entry : L .entry ≡ Plain
     pub end-mark : EndMarkRule gap acknowledgement response
     pub frame : FrameRules f
     pub let-go : LetGoRule wait
     pub silent : SilenceRule silence
 
+  -- So end commands: "minus the end mark .. and minus document 01's release, letting go and silence after the last byte". Nothing is asked
+  -- of the ticks after the finish.
+  pub record LastCommandRules (gap : ℕ) (f : Frame) : Type 0 where
+    pub entry : L .entry ≡ Command
+    pub plain : PlainRule gap
+    pub frame : FrameRules f
+
   abbrev pub SendingRules : Sending → Type 0
   SendingRules (more gap f wait rest) = MoreRules gap f wait × SendingRules rest
   SendingRules (last gap acknowledgement response f wait silence) = LastRules gap acknowledgement response f wait silence
+  SendingRules (lastCommand gap f after) = LastCommandRules gap f
 
   pub record PlanRules (p : Plan) : Type 0 where
     pub first-take : FirstTakeRule (p .found)

@@ -1,4 +1,4 @@
--- The shown pair: "read off the recording and the ledger".
+-- The shown pair: "read off the recording and the ledger". ATN plays no part in it.
 use Rattle.answer.specs.Basics.{ℕ, suc, Bool, true, false, List, [], _∷_, ltb, if_then_else_}
 use Rattle.transfer.specs.{Types.Lines, Types.Byte, Parties.Pulls, Parties.pulls}
 

@@ -1,5 +1,5 @@
--- Ticks in spans of equal lines, as the steps of a recording show them, and document 01's S1 written so.
-use Rattle.answer.specs.Basics.{ℕ, _+_, List, [], _∷_, _++_, replicate}
+-- Ticks in spans of equal lines, as the steps of a recording show them; document 01's S1 and a command recording written so.
+use Rattle.answer.specs.Basics.{ℕ, _+_, true, List, [], _∷_, _++_, replicate}
 use Rattle.transfer.specs.{Types.Lines, Lines.linesOf}
 
 -- So many ticks that show the same lines.
@@ -36,3 +36,19 @@ till41 = opening 220 80 ++ bits (4 ∷ 0 ∷ 0 ∷ 0 ∷ 0 ∷ 0 ∷ 4 ∷ 0 ∷
 -- S1 of document 01, "Sample recordings".
 abbrev pub s1 : List Span
 s1 = till41 ++ (30 ∶ 2 ∷ 200 ∶ 6 ∷ 50 ∶ 4 ∷ 100 ∶ 0 ∷ [])
+
+-- #101: the same CLK and DATA with ATN pulled.
+abbrev pub attended : List Span → List Span
+attended [] = []
+attended (s ∷ spans) =
+    record { duration = s .duration; lines = record { atn = true; clk = s .lines .clk; «data» = s .lines .«data» } } ∷ attended spans
+
+-- A byte without end mark, up to its take.
+abbrev pub plainByte : List ℕ → List Span
+plainByte ds = 200 ∶ 6 ∷ 50 ∶ 4 ∷ 60 ∶ 0 ∷ (bits ds ++ (30 ∶ 2 ∷ []))
+
+-- LISTEN 8, secondary 15: the bytes 0x28 and 0x6F, up to the second take, which is tick 2,760; then both hold their lines for `hold` ticks.
+abbrev pub listen : (hold : ℕ) → List Span
+listen hold =
+    attended
+    (plainByte (0 ∷ 0 ∷ 0 ∷ 4 ∷ 0 ∷ 4 ∷ 0 ∷ 0 ∷ []) ++ (plainByte (4 ∷ 4 ∷ 4 ∷ 4 ∷ 0 ∷ 4 ∷ 4 ∷ 0 ∷ []) ++ (hold ∶ 6 ∷ [])))

@@ -1,9 +1,16 @@
-// The times of document 01, in ticks of 1 µs. Each has one name, used wherever that time is meant. H marks a house limit, 000 and
-// 003 the source that gives the others.
+// What a transfer is judged by: which entry it was handed to, and the times of document 01, in ticks of 1 µs. Each time has one name, used
+// wherever it is meant. H marks a house limit, 000 and 003 the source that gives the others.
 ghost use Rattle.answer.specs.Basics.{_≡_};
-ghost use Rattle.transfer.specs.Limits.{standardLimits};
+ghost use Rattle.transfer.specs.Limits.{standardLimits, commandLimits};
+
+// A data transfer has ATN released throughout, commands have it pulled until their finish.
+pub enum Entry {
+    Plain,
+    Command,
+}
 
 pub struct Limits {
+    pub entry: Entry,
     pub presence: u32,
     pub between_bytes: u32,
     pub end_mark: u32,
@@ -47,11 +54,12 @@ impl Limits {
     // The last offset after bit 8 at which the receiver may take DATA (000).
     pub const TAKE_LATEST: u32 = 1000;
 
-    // Document 01's own times.
+    // Document 01's own times, for a data transfer.
     pub fn standard() -> Limits
         ensures { λ r. ⌜ r ≡ standardLimits ⌝ }
     {
         Limits {
+            entry: Entry::Plain,
             presence: Limits::PRESENCE,
             between_bytes: Limits::BETWEEN_BYTES,
             end_mark: Limits::END_MARK,
@@ -65,6 +73,18 @@ impl Limits {
             valid_most: Limits::VALID_MOST,
             keep_most: Limits::KEEP_MOST,
             take_latest: Limits::TAKE_LATEST,
+        }
+    }
+
+    // The same times for commands. They have no end mark: D lasts no longer than a byte may begin.
+    pub fn command() -> Limits
+        ensures { λ r. ⌜ r ≡ commandLimits ⌝ }
+    {
+        let standard = Limits::standard();
+        Limits {
+            entry: Entry::Command,
+            end_mark_latest: standard.end_mark - 1,
+            ..standard
         }
     }
 }

@@ -37,6 +37,8 @@ pub enum Phase {
     Carried(bool, u8, u32),
     // E: finish
     End(u32),
+    // After the finish of commands: finish
+    Finished(u32),
     // A verdict has fallen.
     Decided(Fault),
 }

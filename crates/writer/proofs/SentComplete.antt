@@ -1,11 +1,11 @@
 -- Read-back over tick lists: a pair for the string gives the ticks that are put down, so that the judge finds them complete with it; and
 -- what the judge finds where no byte was given. Assumes nothing.
 use Rattle.answer.specs.Basics.{ℕ, List, [], _∷_, _≡_}
-use mathlib.Core.Path.{refl}
+use mathlib.Core.Path.{refl, ap, _∙_}
 use borrow.Author.Needs.{needs}
 use Rattle.recording.specs.{GoodForm.Bytes, Ticks.ticks}
-use Rattle.transfer.specs.{Types.Limits, Types.Lines, Limits.standardLimits, Moves.move, Moves.brokenAt, Outcome.run, Outcome.outcome}
-use Rattle.transfer.specs.{Parties.planBytes, Pair.senderTrack, Pair.receiverTrack, Demand3.CompleteWith, Demand3.Explained}
+use Rattle.transfer.specs.{Types.Entry, Types.Limits, Types.Lines, Limits.standardLimits, Moves.move, Moves.brokenAt, Outcome.run, Outcome.outcome}
+use Rattle.transfer.specs.{Parties.planBytes, Pair.senderTrack, Pair.receiverTrack, Pair.attentionTrack, Pair.gives, Demand3.CompleteWith, Demand3.Explained}
 use Rattle.transfer.specs.Phases.{below, upTo, next, same, withBit, handover, afterBit}
 use Rattle.answer.specs.Types.{EmptyStream}
 use Rattle.transfer.proofs.Demand3.{standard-demand3}
@@ -40,7 +40,9 @@ module _ (first : ℕ) (others : List ℕ) (bytes : Bytes (first ∷ others)) wh
                     string-is = sends-string card _ first others bytes;
                     dated-so = refl;
                   };
-              gives-it = gives-sent card (in-time .set-up) first others .same;
+              gives-it =
+                  ap (λ (entry : Entry). gives (attentionTrack entry plan) (senderTrack plan) (receiverTrack plan)) (in-time .entry)
+                  ∙ gives-sent card (in-time .set-up) first others .same;
             };
       }
 

@@ -4,13 +4,14 @@ use native.Mathlib.Omega.{arith}
 use mathlib.Core.Path.{refl, ap}
 use lib.ListN.{length-replicate}
 use borrow.Author.Needs.{needs}
-use Rattle.transfer.specs.Types.{Limits}
+use Rattle.transfer.specs.Types.{Plain, Limits}
 use Rattle.transfer.specs.Rules.{lastOf, BitRule, BitRules, FrameRules, SendingRules, PlanRules}
 use Rattle.writer.specs.declared.card.Card.{Card}
 use Rattle.writer.proofs.SentPlan.{odd, bitOf, bitsOf, frameOf, sendingOf, planOf}
 
--- What the rules ask of a card's durations.
+-- What the rules ask of a card's durations. What is written is a data transfer.
 pub record InTime (L : Limits) (card : Card) : Type 0 where
+  pub entry : L .entry ≡ Plain
   pub hold : 1 ≤ card .hold
   pub hold-least : L .«between_bytes» ≤ card .hold
   pub ready : 1 ≤ card .«ready_to_send»
@@ -66,7 +67,13 @@ module _ {L : Limits} {card : Card} (in-time : InTime L card) where
 
   sending-keeps : (first : ℕ) (others : List ℕ) → SendingRules L (sendingOf card first others)
   sending-keeps first [] =
-      record { end-mark = search needs; frame = frame-keeps first; let-go = search needs; silent = search needs }
+      record {
+        entry = in-time .entry;
+        end-mark = search needs;
+        frame = frame-keeps first;
+        let-go = search needs;
+        silent = search needs;
+      }
   sending-keeps first (second ∷ others) =
       (record { plain = search needs; frame = frame-keeps first; let-go = search needs }, sending-keeps second others)
 

@@ -31,8 +31,8 @@ idle-ticks-spec =
     (tie.spec (λ c. search needs) (λ c κs. search needs) (λ c. search needs) (λ c. search needs) (λ c. search needs)
     (λ c. search needs) (λ c κs. search needs) (λ c. search needs) (λ c κs. search needs) (λ c. search needs)
     (λ c κs. search needs) (λ c. search needs) (λ c κs. search needs) (λ c. search needs) (λ c κs. search needs)
-    (λ c. search needs) (λ c κs. search needs) (λ c. search needs) (λ c. search needs) (λ c. search needs) returns
+    (λ c. search needs) (λ c κs. search needs) (λ c. search needs) (λ c. search needs) (λ c. search needs) (λ c. search needs) returns
     (λ c. idle-told _ _ _ (c .enum-told2 .given .1)) (λ c. idle-told _ _ _ (c .enum-told3 .given .1))
     (λ c. idle-told _ _ _ (c .enum-told4 .given .1)) returns-5 returns-6 returns-7 returns-8 returns-9 returns-10
     (λ c. idle-told _ _ _ (c .enum-told5 .given .1)) (λ c. idle-told _ _ _ (c .enum-told6 .given .1))
-    (λ c. idle-told _ _ _ (c .enum-told7 .given .1)))
+    (λ c. idle-told _ _ _ (c .enum-told7 .given .1)) (λ c. idle-told _ _ _ (c .enum-told8 .given .1)))

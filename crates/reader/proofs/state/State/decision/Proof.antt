@@ -10,16 +10,22 @@ returns c =
 
 returns-2 : tie.Need-returns-2
 returns-2 c =
-    c .broken .ensures
+    c .complete2 .ensures
     ∙ decision-told (c .before .before .before .before .before .args .self .tick) (c .before .before .phase2 .given .1)
 
 returns-3 : tie.Need-returns-3
 returns-3 c =
-    let s = c .before .before .before .args .self in
-    c .cut .ensures ∙ cut-short (s .phase) (s .tick) (c .before .before .match .keys2) (c .before .match2 .keys2)
+    c .broken .ensures
+    ∙ decision-told (c .before .before .before .before .before .before .args .self .tick) (c .before .before .phase3 .given .1)
+
+returns-4 : tie.Need-returns-4
+returns-4 c =
+    let s = c .before .before .before .before .args .self in
+    c .cut .ensures
+    ∙ cut-short (s .phase) (s .tick) (c .before .before .before .match .keys2) (c .before .before .match2 .keys2) (c .before .match3 .keys2)
 
 pub decision-spec : {M : Type 1} → statement M
 decision-spec =
     tie.close
     (tie.spec (λ c. search needs) (λ c κs. search needs) returns (λ c. search needs) (λ c κs. search needs) returns-2
-    (λ c κs. search needs) returns-3)
+    (λ c. search needs) (λ c κs. search needs) returns-3 (λ c κs. search needs) returns-4)

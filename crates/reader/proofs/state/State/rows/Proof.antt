@@ -67,8 +67,14 @@ returns-12 c =
 returns-13 : tie.Need-returns-13
 unfolding next
 returns-13 c =
+    let a = c .before .before .before .args in
+    told (a .limits) (a .self) (a .lines) (c .before .enum-told3 .given .1) (c .stop .ensures)
+
+returns-14 : tie.Need-returns-14
+unfolding next
+returns-14 c =
     let a = c .before .before .before .before .args in
-    told (a .limits) (a .self) (a .lines) (c .before .before .phase11 .given .1) (c .stop .ensures)
+    told (a .limits) (a .self) (a .lines) (c .before .before .phase11 .given .1) (c .stop2 .ensures)
 
 pub rows-spec : {M : Type 1} → statement M
 rows-spec =
@@ -78,5 +84,5 @@ rows-spec =
     (λ c κs. search needs) (λ c. search needs) (λ c κs. search needs) (λ c. search needs) (λ c κs. search needs)
     (λ c. search needs) (λ c κs. search needs) (λ c. search needs) (λ c κs. search needs) (λ c. search needs)
     (λ c κs. search needs) (λ c. search needs) (λ c κs. search needs) (λ c. search needs) (λ c κs. search needs)
-    (λ c. search needs) (λ c κs. search needs) returns returns-2 returns-3 returns-4 returns-5 returns-6 returns-7
-    returns-8 returns-9 returns-10 returns-11 returns-12 returns-13)
+    (λ c. search needs) (λ c κs. search needs) (λ c. search needs) (λ c κs. search needs) returns returns-2 returns-3 returns-4 returns-5 returns-6 returns-7
+    returns-8 returns-9 returns-10 returns-11 returns-12 returns-13 returns-14)
