@@ -6,10 +6,12 @@ use native.Mathlib.Omega.{arith}
 use mathlib.Core.List.{List}
 use mathlib.Core.Logic.{⊎-elim}
 use mathlib.Core.Path.{_≡_, _∙_, refl, ap}
-use lib.ListN.{set, length-set}
+use lib.ListN.{length, set, length-set}
 use lib.Seq.{drop-drop, drop-set-lt}
-use Rattle.second_judge.specs.Promise.{Kept}
+use Rattle.second_judge.specs.Promise.{Answered, Kept}
 use Rattle.second_judge.specs.Recording.{duration, ticks}
+use Rattle.second_judge.specs.declared.Finding.{Finding}
+use Rattle.second_judge.specs.declared.entry.Entry.{Entry}
 
 -- ---- lent memory
 
@@ -31,6 +33,14 @@ kept-from {j} {k} {a} {b} later kept =
       as-long = kept .as-long;
       the-same = rw (there, ← drop-drop (k - j) j b, ← drop-drop (k - j) j a, kept .the-same);
     }
+
+-- an answer leaves the lent memory as long as it was
+pub as-long-answered : {entry : Entry} {finding : Finding} {file bytes bytes′ ledger ledger′ : List ℕ}
+    → Answered entry finding file bytes bytes′ ledger ledger′
+    → (length bytes′ ≡ length bytes) × (length ledger′ ≡ length ledger)
+as-long-answered answered =
+    ⊎-elim (λ refused. (ap length (refused .same-bytes), ap length (refused .same-ledger)))
+    (λ judged. (judged .bytes-kept .as-long, judged .ledger-kept .as-long)) answered
 
 -- ---- a recording's ticks
 

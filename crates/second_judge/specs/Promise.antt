@@ -1,6 +1,7 @@
--- What `judge_by_steps` promises of its finding of `file` and of the lent memory: `bytes` and `ledger` are what was lent,
--- `bytes′` and `ledger′` what it is at the end. Assumes nothing.
+-- What both entries, `judge_by_steps` and `judge_command_by_steps`, promise of their finding of `file` and of the lent
+-- memory: `bytes` and `ledger` are what was lent, `bytes′` and `ledger′` what it is at the end. Assumes nothing.
 use Rattle.second_judge.specs.{ℕ, _+_, _*_, _<_, List, length, drop, _≡_, _⊎_, declared.Finding.Finding}
+use Rattle.second_judge.specs.declared.entry.Entry.{Entry}
 use Rattle.second_judge.specs.Numbers.{Among, refusals, verdicts}
 use Rattle.second_judge.specs.Recording.{step-count, total-ticks, lines, AtRest}
 
@@ -23,14 +24,14 @@ pub record Timed (finding : Finding) (total steps : ℕ) : Type 0 where
   pub before-the-end : (finding .number ≡ 22 → ⊥) → (finding .tick < total) × (finding .step < steps)
 
 -- "Its count is the bytes handed over. The byte buffer begins with those; the ledger begins with two ticks for each."
-pub record Judged (finding : Finding) (file bytes bytes′ ledger ledger′ : List ℕ) : Type 0 where
-  pub a-verdict : Among verdicts (finding .number)
+pub record Judged (entry : Entry) (finding : Finding) (file bytes bytes′ ledger ledger′ : List ℕ) : Type 0 where
+  pub a-verdict : Among (verdicts entry) (finding .number)
   pub timed : Timed finding (total-ticks file) (step-count file)
-  -- "E end. .. Any tick other than (0,0): 37.", and with ATN 23
-  pub at-rest : finding .number ≡ 20 → (last : ℕ) → last + 1 ≡ step-count file → AtRest (lines file last)
+  -- "E end. .. Any tick other than (0,0): 37.", and with ATN 23; "After the finish only a pull of ATN matters: 37."
+  pub at-rest : finding .number ≡ 20 → (last : ℕ) → last + 1 ≡ step-count file → AtRest entry (lines file last)
   pub bytes-kept : Kept (finding .count) bytes bytes′
   pub ledger-kept : Kept (2 * finding .count) ledger ledger′
 
-abbrev pub Answered : Finding → List ℕ → List ℕ → List ℕ → List ℕ → List ℕ → Type 0
-Answered finding file bytes bytes′ ledger ledger′ =
-    Refused finding bytes bytes′ ledger ledger′ ⊎ Judged finding file bytes bytes′ ledger ledger′
+abbrev pub Answered : Entry → Finding → List ℕ → List ℕ → List ℕ → List ℕ → List ℕ → Type 0
+Answered entry finding file bytes bytes′ ledger ledger′ =
+    Refused finding bytes bytes′ ledger ledger′ ⊎ Judged entry finding file bytes bytes′ ledger ledger′

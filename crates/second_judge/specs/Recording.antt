@@ -1,5 +1,7 @@
 -- Document 01, "Recording layout", as far as the promises name it: `file` is a list of bytes. Assumes nothing.
 use Rattle.second_judge.specs.{ℕ, zero, suc, _+_, _*_, _%_, _≤_, _<_, List, length, getD, _≡_}
+use Rattle.second_judge.specs.declared.entry.Entry.{Entry}
+use Rattle.second_judge.specs.declared.entry.Entry.the-variants.{Plain, Command}
 
 -- "Little-endian."
 abbrev pub two-bytes : List ℕ → ℕ → ℕ
@@ -23,9 +25,10 @@ duration file step = two-bytes file (16 + 4 * step)
 abbrev pub lines : List ℕ → ℕ → ℕ
 lines file step = two-bytes file (16 + 4 * step + 2)
 
--- "bit 0 ATN, 1 CLK, 2 DATA": none of them is pulled
-abbrev pub AtRest : ℕ → Type 0
-AtRest shown = shown % 8 ≡ 0
+-- "bit 0 ATN, 1 CLK, 2 DATA": none of them is pulled; after the finish of #101 "only a pull of ATN matters"
+abbrev pub AtRest : Entry → ℕ → Type 0
+AtRest Plain shown = shown % 8 ≡ 0
+AtRest Command shown = shown % 2 ≡ 0
 
 -- the sum of the durations of the first steps
 unfoldable pub ticks : List ℕ → ℕ → ℕ

@@ -12,6 +12,9 @@ pub const END_MARK_FROM: u32 = 200;
 // D: "(0,0): stay; at offset 290 it is 27" (H).
 pub const END_MARK_NOT_ACKNOWLEDGED_AT: u32 = 290;
 
+// D in a command recording (#101): "(0,0) at offset 199 gives 38", the last tick before the end mark's window.
+pub const END_MARK_UNDER_ATTENTION_AT: u32 = END_MARK_FROM - 1;
+
 // F: "(0,0): before offset 60 it is 28".
 pub const ACKNOWLEDGEMENT_FROM: u32 = 60;
 

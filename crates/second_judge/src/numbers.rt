@@ -1,4 +1,4 @@
-// The numbers of "Numbers and what they leave".
+// The numbers of document 01's "Numbers and what they leave", and those that document 02 adds.
 
 // No number of document 01: nothing is refused or decided yet.
 pub const NONE: u32 = 0;
@@ -58,3 +58,9 @@ pub const RECEIVER_TIME_OUT: u32 = 35;
 pub const HURRIED: u32 = 36;
 
 pub const MOVED_AFTER_THE_END: u32 = 37;
+
+// Verdicts of document 02's #101: "in D, (0,0) at offset 199 gives 38 (end mark under attention)"; "ATN released
+// otherwise .. gives 39".
+pub const END_MARK_UNDER_ATTENTION: u32 = 38;
+
+pub const ATTENTION_RELEASED: u32 = 39;

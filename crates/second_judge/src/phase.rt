@@ -1,4 +1,4 @@
-// "The judge's phases". What a tick leads to is one number too: one of these, one of the three at the end, or from 20
+// "The judge's phases". What a tick leads to is one number too: one of these, one of the four at the end, or from 20
 // on a verdict, at which the reading "stops for good".
 
 // A.
@@ -21,7 +21,7 @@ pub const VALID: u32 = 7;
 pub const CARRIED: u32 = 8;
 // Handover: "DATA has been seen released".
 pub const OPEN: u32 = 9;
-// E.
+// E; in a command recording, after the finish.
 pub const END: u32 = 10;
 
 // What a tick may lead to besides a phase: "stay".
@@ -30,3 +30,5 @@ pub const STAY: u32 = 11;
 pub const HAND_OVER: u32 = 12;
 // From carried to open: "open from here".
 pub const OPEN_FROM_HERE: u32 = 13;
+// To E by the finish of #101, which "hands the last byte over".
+pub const FINISH: u32 = 14;

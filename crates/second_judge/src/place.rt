@@ -1,7 +1,7 @@
 // Where the reading stands: the phase, and the ticks that matter.
-ghost use mathlib.Core.{List._∷_, Path._≡_};
+ghost use mathlib.Core.Path.{_≡_};
 ghost use Prim.Native.Nat.{_≤_};
-ghost use Rattle.second_judge.specs.Numbers.{Among, leading, standing, stay, the-end};
+ghost use Rattle.second_judge.specs.Numbers.{Follows};
 use crate::limits;
 use crate::phase;
 
@@ -28,9 +28,7 @@ pub fn place_of(
     let_go: u32,
     take: u32,
 ) -> Place
-    requires { ⌜ Among (the-end ∷ standing) phase ⌝ }
-    ensures { λ r. ⌜ (r .phase ≡ phase) × (r .since ≡ since) × (r .«since_step» ≡ «since_step»)
-        × Among (the-end ∷ standing) (r .phase) ⌝ }
+    ensures { λ r. ⌜ (r .phase ≡ phase) × (r .since ≡ since) × (r .«since_step» ≡ «since_step») ⌝ }
 {
     Place {
         phase,
@@ -45,12 +43,9 @@ pub fn place_of(
 // The place after this tick of this step. Carried: "take and letting go both at offset 1", unless DATA is seen released
 // later and both are set anew.
 pub fn after(before: Place, next: u32, tick: u32, step: u32) -> Place
-    requires { ⌜ (before .since ≤ tick) × (before .«since_step» ≤ step) × (tick ≤ 2000000000)
-        × Among (the-end ∷ standing) (before .phase) ⌝ }
-    requires { ⌜ Among (the-end ∷ leading) next ⌝ }
-    ensures { λ r. ⌜ (r .since ≤ tick) × (r .«since_step» ≤ step) × Among (the-end ∷ standing) (r .phase) ⌝ }
-    ensures { λ r. ⌜ (r .phase ≡ the-end → next ≡ stay → before .phase ≡ the-end) ⌝ }
-    ensures { λ r. ⌜ (r .phase ≡ the-end → (next ≡ stay → ⊥) → next ≡ the-end) ⌝ }
+    requires { ⌜ (before .since ≤ tick) × (before .«since_step» ≤ step) × (tick ≤ 2000000000) ⌝ }
+    ensures { λ r. ⌜ (r .since ≤ tick) × (r .«since_step» ≤ step) ⌝ }
+    ensures { λ r. ⌜ Follows (before .phase) next (r .phase) ⌝ }
 {
     let ready_for_data = before.ready_for_data;
     let let_go = before.let_go;
@@ -66,6 +61,7 @@ pub fn after(before: Place, next: u32, tick: u32, step: u32) -> Place
             let_go,
             take,
         ),
+        phase::FINISH => place_of(phase::END, tick, step, ready_for_data, let_go, take),
         phase::READY_FOR_DATA => place_of(phase::READY_FOR_DATA, tick, step, tick, let_go, take),
         phase::CARRIED => {
             let both = tick + limits::CARRIED_TAKE;

@@ -1,11 +1,12 @@
 // "Reading goes from state to state and stops for good at the deciding tick": here from step to step.
-ghost use mathlib.Core.Path.{_≡_};
+ghost use mathlib.Core.{List.[], List._∷_, Path._≡_};
 ghost use Prim.Native.Nat.{_<_};
-ghost use Rattle.second_judge.specs.Numbers.{Among, the-end, verdicts};
+ghost use Rattle.second_judge.specs.Numbers.{Among, the-end};
 ghost use Rattle.second_judge.specs.Promise.{Judged, Timed};
 ghost use Rattle.second_judge.specs.Recording.{Passed};
 use crate::Finding;
 use crate::byte;
+use crate::entry::Entry;
 use crate::layout;
 use crate::next;
 use crate::numbers;
@@ -18,10 +19,16 @@ use crate::storing;
 // Lines that stay as they are can turn the reading only in their first tick, so that the later ticks of a step are
 // asked for the phase's limit alone. That a step goes on with the lines of the one before changes nothing: its first
 // tick then is one more tick that stays. `before` has the lines of the tick before.
-pub fn read_steps(file: &[u8], steps: u32, bytes: &mut [u8], ledger: &mut [u32]) -> Finding
+pub fn read_steps(
+    entry: Entry,
+    file: &[u8],
+    steps: u32,
+    bytes: &mut [u8],
+    ledger: &mut [u32],
+) -> Finding
     requires { ⌜ Passed (now file) steps ⌝ }
-    ensures { λ r.
-        ⌜ Judged r (now (file .entry)) (now (bytes .entry)) (now (bytes .exit)) (now (ledger .entry)) (now (ledger .exit)) ⌝ }
+    ensures { λ r. ⌜ Judged entry r (now (file .entry)) (now (bytes .entry)) (now (bytes .exit))
+        (now (ledger .entry)) (now (ledger .exit)) ⌝ }
 {
     let mut place = place::place_of(phase::START, 0, 0, 0, 0, 0);
     let mut byte = byte::no_byte();
@@ -34,11 +41,11 @@ pub fn read_steps(file: &[u8], steps: u32, bytes: &mut [u8], ledger: &mut [u32])
         let lines = word / layout::LINES_FROM;
         let end = tick + word % layout::LINES_FROM;
         let offset = tick - place.since;
-        let next = next::next(place.phase, offset, lines, before, byte.bits, byte.end_mark);
+        let next = next::next(entry, place.phase, offset, lines, before, byte);
         count = storing::hand_over(next, byte.value, place, count, bytes, ledger);
         byte = byte::after(byte, next, lines);
         place = place::after(place, next, tick, step);
-        let found = patience::found_in(place, count, step, end);
+        let found = patience::found_in(entry, place, count, step, end);
         if found.number != numbers::NONE {
             return found;
         }
@@ -49,11 +56,12 @@ pub fn read_steps(file: &[u8], steps: u32, bytes: &mut [u8], ledger: &mut [u32])
     ran_out(place, tick, steps, count)
 }
 
-// "The recording running out gives 20 in E, 22 anywhere else." "20: the finish tick; 22: total ticks and n."
+// "The recording running out gives 20 in E, 22 anywhere else." "20: the finish tick; 22: total ticks and n." #101:
+// "Running out gives 20 with the finish tick, or 22 before it." E's first tick is the finish with either entry.
 // A choice: steps are counted from 0, as S1 shows, whose last step of 25 is its step 24.
 fn ran_out(place: Place, total: u32, steps: u32, count: u32) -> Finding
     requires { ⌜ (place .phase ≡ the-end → (place .since < total) × (place .«since_step» < steps)) ⌝ }
-    ensures { λ r. ⌜ Among verdicts (r .number) × (r .count ≡ count) × Timed r total steps
+    ensures { λ r. ⌜ Among (20 ∷ 22 ∷ []) (r .number) × (r .count ≡ count) × Timed r total steps
         × (r .number ≡ 20 → place .phase ≡ the-end) ⌝ }
 {
     if place.phase == phase::END {

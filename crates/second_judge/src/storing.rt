@@ -5,7 +5,8 @@ ghost use Rattle.second_judge.specs.Promise.{Kept};
 use crate::phase;
 use crate::place::Place;
 
-// C: "Entering it after a byte hands that byte over." Gives how many are handed over then.
+// C: "Entering it after a byte hands that byte over." The finish of #101 "hands the last byte over". Gives how many are
+// handed over then.
 pub fn hand_over(
     next: u32,
     value: u32,
@@ -19,12 +20,13 @@ pub fn hand_over(
     ensures { λ r. ⌜ Kept r (now (bytes .entry)) (now (bytes .exit)) ⌝ }
     ensures { λ r. ⌜ Kept (2 * r) (now (ledger .entry)) (now (ledger .exit)) ⌝ }
 {
-    if next == phase::HAND_OVER {
-        put_byte(bytes, count, value);
-        put_ticks(ledger, count, place.let_go, place.take);
-        count + 1
-    } else {
-        count
+    match next {
+        phase::HAND_OVER | phase::FINISH => {
+            put_byte(bytes, count, value);
+            put_ticks(ledger, count, place.let_go, place.take);
+            count + 1
+        }
+        _ => count,
     }
 }
 

@@ -1,21 +1,34 @@
 //! The judge: the order of the phases, and what is handed over on the way.
 
 use crate::bits::byte;
+use crate::entry::Entry;
+use crate::finish::{after_finish, HandedOverBy};
 use crate::handover::{handover, LedgerTicks};
 use crate::phases::{end, hold, ready_for_data, ready_to_send, start};
 use crate::reader::{Decision, Reader};
 use crate::recording::{check, Recording};
 use crate::Answer;
 
-/// Judges a recording. The bytes handed over and their ticks are written to
-/// `bytes` and `ledger`; nothing else there changes.
+/// Judges the recording of a data transfer by document 01. The bytes handed over
+/// and their ticks are written to `bytes` and `ledger`; nothing else there
+/// changes.
 pub fn judge(file: &[u8], bytes: &mut [u8], ledger: &mut [u32]) -> Answer {
+    judge_by(Entry::Plain, file, bytes, ledger)
+}
+
+/// Judges a command recording by #101 of document 02: the same refusals, the
+/// same use of `bytes` and `ledger`, and the new verdicts 38 and 39.
+pub fn judge_command(file: &[u8], bytes: &mut [u8], ledger: &mut [u32]) -> Answer {
+    judge_by(Entry::Command, file, bytes, ledger)
+}
+
+fn judge_by(entry: Entry, file: &[u8], bytes: &mut [u8], ledger: &mut [u32]) -> Answer {
     let recording = match check(file, bytes.len(), ledger.len()) {
         Ok(recording) => recording,
         Err(refusal) => return refusal,
     };
     let mut lent = Lent::new(bytes, ledger);
-    let (Ok(decision) | Err(decision)) = transfer(&recording, &mut lent);
+    let (Ok(decision) | Err(decision)) = transfer(entry, &recording, &mut lent);
     Answer {
         number: decision.number,
         tick: decision.tick,
@@ -24,10 +37,10 @@ pub fn judge(file: &[u8], bytes: &mut [u8], ledger: &mut [u32]) -> Answer {
     }
 }
 
-/// Reads a transfer from start to end. A byte is handed over on entering C, so
-/// one that was taken but held too briefly isn't counted.
-fn transfer(recording: &Recording, lent: &mut Lent) -> Result<Decision, Decision> {
-    let reader = &mut Reader::new(recording)?;
+/// Reads a transfer from start to end. A byte is handed over on entering C or by
+/// the finish, so one that was taken but held too briefly isn't counted.
+fn transfer(entry: Entry, recording: &Recording, lent: &mut Lent) -> Result<Decision, Decision> {
+    let reader = &mut Reader::new(recording, entry)?;
     start(reader)?;
     hold(reader)?;
     let mut end_mark = false;
@@ -36,10 +49,13 @@ fn transfer(recording: &Recording, lent: &mut Lent) -> Result<Decision, Decision
         if end_mark {
             return Ok(end(reader));
         }
-        end_mark = ready_for_data(reader, lent.count == 0)?;
+        end_mark = ready_for_data(reader, entry, lent.count == 0)?;
         let byte = byte(reader)?;
-        let ticks = handover(reader, byte)?;
-        lent.hand_over(byte, ticks);
+        let handover = handover(reader, byte)?;
+        lent.hand_over(byte, handover.ticks);
+        if let HandedOverBy::Finish(finish) = handover.by {
+            return Ok(after_finish(reader, finish));
+        }
     }
 }
 

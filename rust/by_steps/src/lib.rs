@@ -1,4 +1,5 @@
 //! A judge and a writer of recorded data transfers, after document 01, the user's paper.
+//! A second entry judges command recordings, after request #101 of document 02.
 //!
 //! The judge goes by steps and durations: what it does is bounded by the number
 //! of steps, however many ticks they last. It rests on one fact about "The
@@ -11,6 +12,9 @@
 
 mod answer;
 mod bits;
+mod command_class;
+mod entry;
+mod finish;
 mod handover;
 mod judge;
 mod limits;
@@ -19,8 +23,11 @@ mod phases;
 mod reader;
 pub mod recording;
 mod step;
+#[cfg(test)]
+mod tests;
 mod writer;
 
 pub use answer::Answer;
-pub use judge::judge;
+pub use command_class::{command_class, CommandClass};
+pub use judge::{judge, judge_command};
 pub use writer::write;

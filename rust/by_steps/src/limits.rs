@@ -1,4 +1,4 @@
-//! The times of "The judge's phases", in ticks. "Each house time has one name,
+//! The times of "The judge's phases" and of request #101, in ticks. "Each house time has one name,
 //! used wherever the time is meant": two times of equal length are two names.
 
 /// A: (1,0) at this offset is 24.
@@ -7,8 +7,14 @@ pub const RECEIVER_WAIT: u32 = 256;
 /// B: the least time from a byte's take to the CLK release after it.
 pub const HOLD_AFTER_TAKE: u32 = 100;
 
+/// The finish of a command recording: the least time from the last take to it.
+pub const FINISH_AFTER_TAKE: u32 = 100;
+
 /// D: from this offset on the silence is an end mark, before it plain.
 pub const END_MARK: u32 = 200;
+
+/// D under attention: (0,0) at this offset, the last plain one, is 38.
+pub const PLAIN_SILENCE_MOST: u32 = 199;
 
 /// D: (0,0) at this offset is 27.
 pub const END_MARK_WAIT: u32 = 290;

@@ -1,4 +1,5 @@
-//! The numbers of "Numbers and what they leave", each by one name.
+//! The numbers of "Numbers and what they leave" and of request #101 (38 and 39),
+//! each by one name.
 
 /// The writer's number where it refuses nothing.
 pub const WRITTEN: u32 = 0;
@@ -33,3 +34,6 @@ pub const CLOCK_STALL: u32 = 34;
 pub const RECEIVER_TIME_OUT: u32 = 35;
 pub const HURRIED: u32 = 36;
 pub const MOVED_AFTER_THE_END: u32 = 37;
+pub const END_MARK_UNDER_ATTENTION: u32 = 38;
+/// #101 gives it no name of its own: "ATN released otherwise".
+pub const ATTENTION_RELEASED: u32 = 39;

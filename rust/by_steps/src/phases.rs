@@ -1,14 +1,15 @@
 //! The phases around a byte's bits, A to G and E. Each function begins in its
 //! phase's first tick and ends in the first tick of the phase that follows.
 
+use crate::entry::Entry;
+use crate::finish::{finish, HandedOverBy};
 use crate::limits::{
     ACKNOWLEDGEMENT_LEAST, ACKNOWLEDGEMENT_MOST, CLOCK_AFTER_ACKNOWLEDGEMENT, END_MARK,
-    END_MARK_WAIT, HOLD_AFTER_TAKE, RECEIVER_WAIT, SENDER_WAIT,
+    HOLD_AFTER_TAKE, RECEIVER_WAIT, SENDER_WAIT,
 };
 use crate::numbers::{
-    ACKNOWLEDGEMENT_LONG, ACKNOWLEDGEMENT_SHORT, BAD_START, COMPLETE, CUT, EMPTY_STREAM,
-    END_MARK_NOT_ACKNOWLEDGED, HURRIED, LATE_CLOCK, MOVED_AFTER_THE_END, NO_RECEIVER, OUT_OF_TURN,
-    SENDER_TIME_OUT,
+    ACKNOWLEDGEMENT_LONG, ACKNOWLEDGEMENT_SHORT, BAD_START, COMPLETE, CUT, EMPTY_STREAM, HURRIED,
+    LATE_CLOCK, MOVED_AFTER_THE_END, NO_RECEIVER, OUT_OF_TURN, SENDER_TIME_OUT,
 };
 use crate::reader::{Decision, Reader};
 use crate::step::Lines;
@@ -25,7 +26,8 @@ pub fn start(reader: &mut Reader) -> Result<(), Decision> {
     }
 }
 
-/// B before the first byte, where no take limits the release of CLK.
+/// B before the first byte, where no take limits the release of CLK. There is no
+/// finish: "ATN released ... in B before any byte ... gives 39".
 #[inline]
 pub fn hold(reader: &mut Reader) -> Result<(), Decision> {
     match reader.stay(Lines::PULLED)? {
@@ -34,15 +36,17 @@ pub fn hold(reader: &mut Reader) -> Result<(), Decision> {
     }
 }
 
-/// B after a byte; its first tick is the take.
+/// B after a byte; its first tick is the take. Left for C, or by the finish.
 #[inline]
-pub fn hold_after_take(reader: &mut Reader) -> Result<(), Decision> {
+pub fn hold_after_take(reader: &mut Reader) -> Result<HandedOverBy, Decision> {
     let take = reader.tick();
-    hold(reader)?;
+    if let Err(stopped) = hold(reader) {
+        return finish(reader, stopped, take);
+    }
     if reader.tick() - take < HOLD_AFTER_TAKE {
         return Err(reader.decide(HURRIED));
     }
-    Ok(())
+    Ok(HandedOverBy::ReadyToSend)
 }
 
 /// C, left for D or E alike.
@@ -60,11 +64,16 @@ pub fn ready_to_send(reader: &mut Reader) -> Result<(), Decision> {
 /// CLK has to be pulled before offset 200 and DATA from there on; the other way
 /// round is 26. The limit leaves at most offset 290 to both. At 290 itself their
 /// rows come first: CLK pulled is 26, (0,1) goes to F, only (0,0) is 27.
+///
+/// A command recording goes "without ... end mark: in D, (0,0) at offset 199
+/// gives 38". That is the same row with a sooner limit, so at 199 itself the
+/// other rows come first again: CLK pulled begins the bits, (0,1) is 26. No
+/// offset from 200 on is left, so F and G aren't reached.
 #[inline]
-pub fn ready_for_data(reader: &mut Reader, no_byte: bool) -> Result<bool, Decision> {
+pub fn ready_for_data(reader: &mut Reader, entry: Entry, no_byte: bool) -> Result<bool, Decision> {
     let ready = reader.tick();
-    let wait_end = ready + END_MARK_WAIT;
-    let lines = reader.stay_until(Lines::RELEASED, wait_end, END_MARK_NOT_ACKNOWLEDGED)?;
+    let (limit, number) = entry.silence_limit();
+    let lines = reader.stay_until(Lines::RELEASED, ready + limit, number)?;
     let end_mark = reader.tick() - ready >= END_MARK;
     if lines.clock_pulled() == end_mark {
         return Err(reader.decide(OUT_OF_TURN));

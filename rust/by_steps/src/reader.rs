@@ -1,6 +1,7 @@
 //! Goes through the steps of a recording, and says where a tick lies in them.
 
-use crate::numbers::{ATTENTION, CUT};
+use crate::entry::Entry;
+use crate::numbers::CUT;
 use crate::recording::Recording;
 use crate::step::{Lines, Step, StepBytes};
 
@@ -15,7 +16,10 @@ pub struct Decision {
 
 /// Stands at one step of a recording.
 pub struct Reader<'a> {
+    /// The steps before ATN first moves.
     steps: &'a [StepBytes],
+    /// The steps from there on.
+    from_attention: &'a [StepBytes],
     /// The step's number.
     number: usize,
     step: Step,
@@ -29,13 +33,17 @@ impl<'a> Reader<'a> {
     /// Stands at step 0, if there is one.
     ///
     /// "A tick with ATN pulled gives 23 before anything else." So the steps
-    /// before the first such tick are all that is ever read, and running out of
-    /// them gives 23 in place of 22, at the same place: the tick and the step
-    /// that follow the last one read.
-    pub fn new(recording: &Recording<'a>) -> Result<Self, Decision> {
-        let steps = recording.before_attention();
-        let attention = steps.len() < recording.step_count();
-        let run_out = if attention { ATTENTION } else { CUT };
+    /// before the first such tick are all that the phases ever read, and running
+    /// out of them gives 23 in place of 22, at the same place: the tick and the
+    /// step that follow the last one read. In a command recording a tick with
+    /// ATN released gives 39 likewise, "tested before the phase's rows".
+    pub fn new(recording: &Recording<'a>, entry: Entry) -> Result<Self, Decision> {
+        let (steps, from_attention) = recording.split_at_attention(entry.attention_pulled());
+        let run_out = if from_attention.is_empty() {
+            CUT
+        } else {
+            entry.attention_moved()
+        };
         let Some(&first) = steps.first() else {
             return Err(Decision {
                 number: run_out,
@@ -46,6 +54,7 @@ impl<'a> Reader<'a> {
         let step = Step::of(first);
         Ok(Reader {
             steps,
+            from_attention,
             number: 0,
             step,
             end_tick: step.duration(),
@@ -115,6 +124,16 @@ impl<'a> Reader<'a> {
             seen = self.advance()?;
         }
         Ok(seen)
+    }
+
+    /// The steps from the one on in which ATN first moves.
+    pub fn steps_from_attention(&self) -> impl Iterator<Item = Step> + 'a {
+        self.from_attention.iter().copied().map(Step::of)
+    }
+
+    /// The lines of the tick in which ATN first moves, if there is one.
+    pub fn lines_at_attention(&self) -> Option<Lines> {
+        self.steps_from_attention().next().map(Step::lines)
     }
 
     #[inline]

@@ -26,18 +26,16 @@ impl<'a> Recording<'a> {
         self.steps.iter().copied().map(Step::of)
     }
 
-    pub(crate) fn step_count(&self) -> usize {
-        self.steps.len()
-    }
-
-    /// The steps before the first with ATN pulled. The form check has met every
-    /// step already, so that one is looked for only where there is one.
-    pub(crate) fn before_attention(&self) -> &'a [StepBytes] {
-        if !self.attention {
-            return self.steps;
+    /// The steps before the first whose ATN isn't as `pulled` says, and those
+    /// from it on. The form check has met every step already, so a first pull is
+    /// looked for only where there is one.
+    pub(crate) fn split_at_attention(&self, pulled: bool) -> (&'a [StepBytes], &'a [StepBytes]) {
+        if !pulled && !self.attention {
+            return (self.steps, &[]);
         }
-        let mut parts = self.steps.split(|&step| Step::of(step).attention_pulled());
-        parts.next().unwrap_or_default()
+        let steps = self.steps();
+        let before = steps.take_while(|step| step.attention_pulled() == pulled);
+        self.steps.split_at(before.count())
     }
 }
 

@@ -1,7 +1,7 @@
 //! Transfers whose bytes are all alike.
 
 use crate::limits;
-use crate::{Bit, Byte, Transfer};
+use crate::{Bit, Byte, Ending, Transfer};
 
 /// One span of each kind, in ticks; the names are those of [`Transfer`] and [`Byte`].
 #[derive(Clone, Copy, Debug)]
@@ -9,9 +9,9 @@ use crate::{Bit, Byte, Transfer};
 pub struct Card {
     pub hold: u32,
     pub ready_to_send: u32,
-    /// Of every byte but the last.
+    /// Of every byte but a plain transfer's last.
     pub ready_for_data: u32,
-    /// Of the last byte: how long it is ready for data.
+    /// Of a plain transfer's last byte: how long it is ready for data.
     pub end_mark: u32,
     pub acknowledgement: u32,
     pub after_acknowledgement: u32,
@@ -53,7 +53,7 @@ impl Card {
     /// The transfer of a string with these spans. The receiver takes DATA at tick 0, and the sender lets go of it with bit 8.
     #[must_use]
     pub fn transfer(&self, string: &[u8]) -> Transfer {
-        let mut bytes: Vec<Byte> = string.iter().map(|value| self.byte(*value)).collect();
+        let mut bytes = self.bytes(string);
         if let Some(last) = bytes.last_mut() {
             last.ready_for_data = self.end_mark;
         }
@@ -65,7 +65,23 @@ impl Card {
             last_hold: self.hold,
             last_ready_to_send: self.ready_to_send,
             silence: self.silence,
+            ending: Ending::Plain,
         }
+    }
+
+    /// The command of a string with these spans, nothing after its finish.
+    #[must_use]
+    pub fn command(&self, string: &[u8]) -> Transfer {
+        Transfer {
+            bytes: self.bytes(string),
+            last_hold: self.hold,
+            ending: Ending::Command(Vec::new()),
+            ..Transfer::default()
+        }
+    }
+
+    fn bytes(&self, string: &[u8]) -> Vec<Byte> {
+        string.iter().map(|value| self.byte(*value)).collect()
     }
 
     fn byte(&self, value: u8) -> Byte {

@@ -2,28 +2,45 @@
 //! each byte are the ledger's." (document 01, "The two parties' own rules")
 
 use crate::rules::check_pair;
-use crate::shown::shown_pair;
+use crate::shown::shown;
 use crate::timetable::Timetable;
-use crate::{Lines, Pair, Track};
+use crate::{Kind, Lines, Pair, Track};
 
-/// Makes the shown pair off a recording and a ledger of two ticks for each byte of the string, and holds it to all that
-/// demand 3 says of it.
+/// Makes the shown pair off a plain recording and a ledger of two ticks for each byte of the string, and holds it to all
+/// that demand 3 says of it.
 ///
 /// # Errors
 ///
 /// What does not hold, with the byte (counted from 0) and the tick.
 pub fn check_shown_pair(recording: &[u8], string: &[u8], ledger: &[u32]) -> Result<(), String> {
+    let lines = Lines::read(recording)?;
+    check_shown(&lines, string, ledger, Kind::Plain)
+}
+
+/// The same for a command recording: demand 3 as request #101 words it. The finish is the first tick with ATN released.
+///
+/// # Errors
+///
+/// What does not hold, with the byte (counted from 0) and the tick.
+pub fn check_shown_command(recording: &[u8], string: &[u8], ledger: &[u32]) -> Result<(), String> {
+    let lines = Lines::read(recording)?;
+    check_shown(&lines, string, ledger, Kind::command_in(&lines))
+}
+
+/// For a recording of this kind. ATN comes first: where it is wrong, it is not known which ticks bind.
+fn check_shown(lines: &Lines, string: &[u8], ledger: &[u32], kind: Kind) -> Result<(), String> {
     if ledger.len() != 2 * string.len() {
         return Err("the ledger has two ticks for each byte".to_string());
     }
-    let lines = Lines::read(recording)?;
-    let pair = shown_pair(&lines, ledger)?;
+    check_attention(kind, lines)?;
+    let pair = shown(lines, ledger, kind)?;
     check_pair(&pair, string)?;
-    check_given(&pair, &lines)?;
+    check_given(&pair, lines)?;
     check_ticks(&pair, string, ledger)
 }
 
 /// "The pair *gives* the recording if ATN is released, CLK is the sender's and DATA is pulled exactly when either pulls."
+/// For a command, request #101 has other words on ATN.
 ///
 /// # Errors
 ///
@@ -36,13 +53,22 @@ pub fn check_given(pair: &Pair, lines: &Lines) -> Result<(), String> {
         ));
     }
     let data = pair.sender_data.either(&pair.receiver_data);
-    equal("ATN is released", &Track::new(), &lines.attention)?;
+    check_attention(pair.kind, lines)?;
     equal("CLK is the sender's", &pair.clock, &lines.clock)?;
     equal(
         "DATA is pulled exactly when either pulls",
         &data,
         &lines.data,
     )
+}
+
+/// Whether ATN is what the kind says.
+fn check_attention(kind: Kind, lines: &Lines) -> Result<(), String> {
+    let rule = match kind {
+        Kind::Plain => "ATN is released",
+        Kind::Command { .. } => "ATN is pulled until the finish and released from it on",
+    };
+    equal(rule, &kind.attention(), &lines.attention)
 }
 
 /// Whether two tracks are the same at every tick.

@@ -1,7 +1,11 @@
 //! Draws legal transfers: random choices within each rule, also at the ends of each window.
 
+mod finish;
+
 use crate::limits::{self, Window, NO_LIMIT};
-use crate::{Bit, Byte, Random, Transfer};
+use crate::{Bit, Byte, Ending, Random, Transfer};
+
+pub use finish::MOST_STRETCHES;
 
 /// How spans are chosen within their windows.
 #[derive(Clone, Copy, Debug)]
@@ -40,21 +44,57 @@ pub const DENSE: Style = Style {
     always_carried: true,
 };
 
-/// Draws a transfer of `count` bytes. It keeps every rule.
+/// Draws a plain transfer of `count` bytes. It keeps every rule.
 #[must_use]
 pub fn transfer(random: &mut Random, count: usize, style: Style) -> Transfer {
     let first_take = span(random, limits::FIRST_TAKE, style);
-    let bytes = (0..count).map(|place| byte(random, place == 0, place + 1 == count, style));
     // The fields are drawn in this order.
     Transfer {
         first_take,
-        bytes: bytes.collect(),
+        bytes: bytes(random, count, limits::END_MARK, style),
         acknowledgement: span(random, limits::ACKNOWLEDGEMENT, style),
         after_acknowledgement: span(random, limits::AFTER_ACKNOWLEDGEMENT, style),
         last_hold: span(random, limits::LATER_HOLD, style),
         last_ready_to_send: span(random, limits::READY_TO_SEND, style),
         silence: span(random, limits::SILENCE, style),
+        ending: Ending::Plain,
     }
+}
+
+/// Draws a command of `count` bytes. It keeps every rule. After its finish there are up to [`MOST_STRETCHES`] stretches.
+#[must_use]
+pub fn command(random: &mut Random, count: usize, style: Style) -> Transfer {
+    let first_take = span(random, limits::FIRST_TAKE, style);
+    let mut bytes = bytes(random, count, limits::READY_FOR_DATA, style);
+    if let Some(last) = bytes.last_mut() {
+        finish::hurry_last_handover(random, last);
+    }
+    Transfer {
+        first_take,
+        bytes,
+        last_hold: finish::hold(random, style),
+        ending: Ending::Command(finish::stretches(random, style)),
+        ..Transfer::default()
+    }
+}
+
+/// The bytes. The last one is ready for data for as long as `last` says.
+fn bytes(random: &mut Random, count: usize, last: Window, style: Style) -> Vec<Byte> {
+    let mut bytes = Vec::with_capacity(count);
+    for place in 0..count {
+        let hold = if place == 0 {
+            limits::FIRST_HOLD
+        } else {
+            limits::LATER_HOLD
+        };
+        let ready_for_data = if place + 1 == count {
+            last
+        } else {
+            limits::READY_FOR_DATA
+        };
+        bytes.push(byte(random, hold, ready_for_data, style));
+    }
+    bytes
 }
 
 /// A number of ticks within a window. Where there is no limit, an end is once in a while longer than any step.
@@ -74,17 +114,7 @@ fn span(random: &mut Random, window: Window, style: Style) -> u32 {
 }
 
 /// A byte, with a handover of either kind.
-fn byte(random: &mut Random, first: bool, last: bool, style: Style) -> Byte {
-    let hold = if first {
-        limits::FIRST_HOLD
-    } else {
-        limits::LATER_HOLD
-    };
-    let ready_for_data = if last {
-        limits::END_MARK
-    } else {
-        limits::READY_FOR_DATA
-    };
+fn byte(random: &mut Random, hold: Window, ready_for_data: Window, style: Style) -> Byte {
     let value = value(random, style);
     let mut byte = Byte {
         value,

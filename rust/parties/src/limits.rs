@@ -1,4 +1,4 @@
-//! The times of document 01, "The two parties' own rules", each under one name.
+//! The times of document 01, "The two parties' own rules", each under one name. Request #101 has no others.
 
 use std::fmt;
 
@@ -39,11 +39,13 @@ impl fmt::Display for Window {
 pub const FIRST_TAKE: Window = Window::new(0, 256);
 /// "The sender releases CLK 1 or more ticks after that take".
 pub const FIRST_HOLD: Window = Window::new(1, NO_LIMIT);
-/// "for later bytes, and after the last, 100 or more after the latest take".
+/// "for later bytes, and after the last, 100 or more after the latest take". A command's finish "comes 100 or more ticks
+/// after the latest take" too.
 pub const LATER_HOLD: Window = Window::new(100, NO_LIMIT);
 /// "The receiver lets go 1 or more ticks later."
 pub const READY_TO_SEND: Window = Window::new(1, NO_LIMIT);
-/// "Not the last byte: the sender pulls CLK 1 to 199 ticks after the letting go."
+/// "Not the last byte: the sender pulls CLK 1 to 199 ticks after the letting go." In a command "the CLK pull before the
+/// last byte's bits keeps the 1 to 199".
 pub const READY_FOR_DATA: Window = Window::new(1, 199);
 /// "Last byte: the receiver pulls DATA 200 to 290 ticks after".
 pub const END_MARK: Window = Window::new(200, 290);

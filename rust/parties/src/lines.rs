@@ -43,6 +43,12 @@ impl Lines {
         }
     }
 
+    /// The first tick with ATN released, where a command has its finish; the number of ticks if there is none.
+    #[must_use]
+    pub fn finish(&self) -> u32 {
+        self.attention.at(0).map_or(0, |pull| pull.until)
+    }
+
     /// Adds a step's ticks.
     fn add(&mut self, duration: u32, shown: u8) {
         let (from, until) = (self.total, self.total + duration);

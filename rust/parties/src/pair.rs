@@ -1,6 +1,6 @@
-//! A pair: a sender track and a receiver track.
+//! A pair: a sender track and a receiver track, and what is nobody's of the two.
 
-use crate::{Step, Track, LONGEST};
+use crate::{Kind, Step, Track, LONGEST};
 
 /// "A *pair* for a string of one or more bytes is a sender track (CLK and DATA pulls at each tick) and a receiver track
 /// (DATA pulls)". Whether it keeps the rules is another matter: [`check_pair`](crate::check_pair) says.
@@ -12,25 +12,36 @@ pub struct Pair {
     pub sender_data: Track,
     /// The receiver's DATA pulls.
     pub receiver_data: Track,
+    /// SRQ, which is neither's and changes no answer.
+    pub service_request: Track,
+    /// Of which kind of recording it is a pair.
+    pub kind: Kind,
     /// How many ticks there are.
     pub total: u32,
 }
 
+/// The ATN bit of a step's lines.
+const ATTENTION: u8 = 1;
 /// The CLK bit of a step's lines.
 const CLOCK: u8 = 2;
 /// The DATA bit of a step's lines.
 const DATA: u8 = 4;
+/// The SRQ bit of a step's lines.
+const SERVICE_REQUEST: u8 = 8;
 
 impl Pair {
-    /// The recording that the pair gives, as few steps as there can be: "ATN is released, CLK is the sender's and DATA is
-    /// pulled exactly when either pulls".
+    /// The recording that the pair gives, as few steps as there can be: ATN is what its kind says, "CLK is the sender's and
+    /// DATA is pulled exactly when either pulls".
     #[must_use]
     pub fn steps(&self) -> Vec<Step> {
         let mut steps = Vec::new();
+        let attention = self.kind.attention();
         let mut tracks = [
+            Cursor::new(&attention, ATTENTION),
             Cursor::new(&self.clock, CLOCK),
             Cursor::new(&self.sender_data, DATA),
             Cursor::new(&self.receiver_data, DATA),
+            Cursor::new(&self.service_request, SERVICE_REQUEST),
         ];
         let mut tick = 0;
         while tick < self.total {

@@ -1,7 +1,9 @@
 //! Document 01, "The two parties' own rules": its six bullets in its order, one file for each, and "No other pulls occur."
+//! Request #101 has a command end otherwise: the file on the finish.
 
 mod bits;
 mod end;
+mod finish;
 mod handover;
 mod no_other_pulls;
 mod ready_for_data;
@@ -10,9 +12,9 @@ mod start;
 
 use crate::limits::Window;
 use crate::timetable::Timetable;
-use crate::Pair;
+use crate::{Kind, Pair};
 
-/// Whether this is a pair for exactly this string: every rule of both parties, for every byte.
+/// Whether this is a pair for exactly this string: every rule of both parties for its kind, for every byte.
 ///
 /// # Errors
 ///
@@ -26,10 +28,20 @@ pub fn check_pair(pair: &Pair, string: &[u8]) -> Result<(), String> {
         bits::check(&table, byte)?;
         handover::check(&table, byte)?;
     }
-    // "and after the last": the sender releases CLK once more, and the receiver lets go.
-    ready_to_send::check(&table, string.len())?;
-    end::check(&table)?;
+    check_ending(&table)?;
     (0..=string.len()).try_for_each(|byte| no_other_pulls::check(&table, byte))
+}
+
+/// The rules on what comes after the last byte.
+fn check_ending(table: &Timetable) -> Result<(), String> {
+    match table.pair.kind {
+        Kind::Plain => {
+            // "and after the last": the sender releases CLK once more, and the receiver lets go.
+            ready_to_send::check(table, table.string.len())?;
+            end::check(table)
+        }
+        Kind::Command { finish } => finish::check(table, finish),
+    }
 }
 
 /// Whether the change at `later` comes as many ticks after the one at `earlier` as the window says.

@@ -1,6 +1,6 @@
 //! Names for the changes of a pair: which pull is whose turn, found by counting alone.
 
-use crate::{Pair, Pull, Track};
+use crate::{Kind, Pair, Pull, Track};
 
 /// A pair with as many pulls as a string takes, so that each can be called by its name. Bytes and bits count from 0.
 pub(crate) struct Timetable<'a> {
@@ -12,13 +12,31 @@ pub(crate) struct Timetable<'a> {
 
 /// The CLK pulls, if they are as many as `count` bytes take: the one from tick 0, and nine for each byte, namely one for
 /// each bit's set-up and one after bit 8.
-pub(crate) fn clock_pulls(clock: &Track, count: usize) -> Result<&[Pull], String> {
-    counted(clock, 9 * count + 1, "the sender's CLK")
+pub(crate) fn clock_pulls(clock: &Track, count: usize, kind: Kind) -> Result<&[Pull], String> {
+    counted(clock, kind, 9 * count + 1, "the sender's CLK")
 }
 
-/// The pulls of a track, if there are as many as there must be: "No other pulls occur."
-fn counted<'a>(track: &'a Track, count: usize, whose: &str) -> Result<&'a [Pull], String> {
-    let pulls = track.pulls();
+/// The pulls of the receiver, if they are as many as `count` bytes take: it holds DATA before each byte and after the last,
+/// and acknowledges the end mark once.
+fn receiver_pulls(data: &Track, count: usize, kind: Kind) -> Result<&[Pull], String> {
+    let acknowledgements = usize::from(kind.has_end_mark());
+    counted(
+        data,
+        kind,
+        count + 1 + acknowledgements,
+        "the receiver's DATA",
+    )
+}
+
+/// The pulls of a track, if there are as many as there must be: "No other pulls occur." Those that begin where the lines
+/// are free do not count.
+fn counted<'a>(
+    track: &'a Track,
+    kind: Kind,
+    count: usize,
+    whose: &str,
+) -> Result<&'a [Pull], String> {
+    let pulls = track.begun_before(kind.free_from());
     if pulls.len() == count {
         return Ok(pulls);
     }
@@ -26,15 +44,19 @@ fn counted<'a>(track: &'a Track, count: usize, whose: &str) -> Result<&'a [Pull]
         .get(count)
         .or(pulls.last())
         .map_or(0, |pull| pull.from);
+    let up_to = match kind {
+        Kind::Plain => String::new(),
+        Kind::Command { finish } => format!(" up to the finish, tick {finish}"),
+    };
     Err(format!(
-        "byte {}, tick {tick}: no other pulls occur: {whose} is pulled {} times, not {count}",
+        "byte {}, tick {tick}: no other pulls occur: {whose} is pulled {} times, not {count}{up_to}",
         pulls.len().min(count) / 9,
         pulls.len()
     ))
 }
 
 impl<'a> Timetable<'a> {
-    /// Counts the pulls. The receiver holds DATA before each byte and after the last, and acknowledges the end mark once.
+    /// Counts the pulls.
     pub(crate) fn new(pair: &'a Pair, string: &'a [u8]) -> Result<Timetable<'a>, String> {
         if string.is_empty() {
             return Err("a pair is for a string of one or more bytes".to_string());
@@ -42,8 +64,8 @@ impl<'a> Timetable<'a> {
         Ok(Timetable {
             pair,
             string,
-            clock: clock_pulls(&pair.clock, string.len())?,
-            receiver: counted(&pair.receiver_data, string.len() + 2, "the receiver's DATA")?,
+            clock: clock_pulls(&pair.clock, string.len(), pair.kind)?,
+            receiver: receiver_pulls(&pair.receiver_data, string.len(), pair.kind)?,
         })
     }
 
@@ -52,14 +74,14 @@ impl<'a> Timetable<'a> {
         self.string.len() - 1
     }
 
-    /// The CLK pull from tick 0.
-    pub(crate) fn first_clock(&self) -> Pull {
-        self.clock[0]
+    /// The CLK pull before a byte, or after the last one: from tick 0, or from the CLK pull after bit 8 of the byte before.
+    pub(crate) fn clock_hold(&self, byte: usize) -> Pull {
+        self.clock[9 * byte]
     }
 
     /// The tick at which the sender releases CLK, ready to send the byte; of the byte beyond the last too.
     pub(crate) fn clock_release(&self, byte: usize) -> u32 {
-        self.clock[9 * byte].until
+        self.clock_hold(byte).until
     }
 
     /// The CLK pull of a bit's set-up.
@@ -82,18 +104,20 @@ impl<'a> Timetable<'a> {
 
     /// Offset 0 of the handover: the CLK pull after bit 8.
     pub(crate) fn handover(&self, byte: usize) -> u32 {
-        self.clock[9 * byte + 9].from
+        self.clock_hold(byte + 1).from
     }
 
-    /// The receiver's hold before a byte, or after the last one: the pull just before the last hold is the acknowledgement.
+    /// The receiver's hold before a byte, or after the last one: the pull just before the last hold is the acknowledgement,
+    /// where there is an end mark.
     pub(crate) fn hold(&self, byte: usize) -> Pull {
-        let acknowledged = usize::from(byte == self.string.len());
-        self.receiver[byte + acknowledged]
+        let acknowledged = byte > self.last() && self.pair.kind.has_end_mark();
+        self.receiver[byte + usize::from(acknowledged)]
     }
 
-    /// The receiver's acknowledgement of the end mark.
-    pub(crate) fn acknowledgement(&self) -> Pull {
-        self.receiver[self.string.len()]
+    /// The receiver's acknowledgement of the end mark, if the byte has one.
+    pub(crate) fn acknowledgement(&self, byte: usize) -> Option<Pull> {
+        let marked = byte == self.last() && self.pair.kind.has_end_mark();
+        marked.then(|| self.receiver[byte + 1])
     }
 
     /// "the receiver's take" of a byte.
@@ -115,8 +139,9 @@ impl<'a> Timetable<'a> {
         }
     }
 
-    /// Whether the sender does not pull DATA at any tick from `from` until `until`.
+    /// Whether the sender does not pull DATA at any tick from `from` until `until`, but for those where the lines are free.
     pub(crate) fn sender_keeps_off(&self, from: u32, until: u32) -> bool {
+        let until = until.min(self.pair.kind.free_from());
         !self.pair.sender_data.anywhere(from, until)
     }
 

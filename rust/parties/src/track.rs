@@ -46,6 +46,12 @@ impl Track {
         &self.pulls
     }
 
+    /// The pulls that begin before `tick`.
+    pub(crate) fn begun_before(&self, tick: u32) -> &[Pull] {
+        let count = self.pulls.partition_point(|pull| pull.from < tick);
+        &self.pulls[..count]
+    }
+
     /// The first pull that ends after `tick`.
     fn ending_after(&self, tick: u32) -> Option<Pull> {
         let place = self.pulls.partition_point(|pull| pull.until <= tick);
@@ -175,6 +181,10 @@ mod tests {
         assert_eq!(pulled, [2, 3, 6]);
         assert!(track.throughout(2, 4) && !track.throughout(2, 5) && track.throughout(5, 5));
         assert!(track.anywhere(3, 5) && !track.anywhere(4, 6) && !track.anywhere(6, 6));
+        assert_eq!(
+            [0, 2, 3, 6, 7].map(|tick| track.begun_before(tick).len()),
+            [0, 0, 1, 1, 2]
+        );
     }
 
     #[test]

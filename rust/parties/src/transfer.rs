@@ -3,6 +3,8 @@
 //! Any spans at all can be laid out; whether they keep the rules is for the one who chooses them. Each span that document
 //! 01, "The two parties' own rules", gives a window to is a field of its own.
 
+use crate::Ending;
+
 /// One bit of a byte.
 #[derive(Clone, Copy, Debug, PartialEq, Eq)]
 pub struct Bit {
@@ -24,7 +26,8 @@ pub struct Byte {
     pub hold: u32,
     /// From there to the receiver's letting go.
     pub ready_to_send: u32,
-    /// From there to the CLK pull that begins the bits; for the last byte, to the receiver's acknowledgement.
+    /// From there to the CLK pull that begins the bits; for the last byte, unless of a command, to the receiver's
+    /// acknowledgement.
     pub ready_for_data: u32,
     /// Its eight bits, least significant first.
     pub bits: [Bit; 8],
@@ -34,21 +37,23 @@ pub struct Byte {
     pub take: u32,
 }
 
-/// A transfer of one or more bytes.
+/// A transfer of one or more bytes. Four spans are of a plain one alone: a command's lay-out passes them over.
 #[derive(Clone, Debug, Default, PartialEq, Eq)]
 pub struct Transfer {
     /// The tick at which the receiver first takes DATA.
     pub first_take: u32,
     /// The bytes.
     pub bytes: Vec<Byte>,
-    /// How long the receiver acknowledges the end mark.
+    /// How long the receiver acknowledges the end mark. Plain alone.
     pub acknowledgement: u32,
-    /// From the end of that to the CLK pull that begins the last byte's bits.
+    /// From the end of that to the CLK pull that begins the last byte's bits. Plain alone.
     pub after_acknowledgement: u32,
-    /// From the last take to the sender's release of CLK.
+    /// From the last take to the sender's release of CLK; of a command, to the finish.
     pub last_hold: u32,
-    /// From there to the receiver's last letting go.
+    /// From there to the receiver's last letting go. Plain alone.
     pub last_ready_to_send: u32,
-    /// How many ticks there are from the last letting go on.
+    /// How many ticks there are from the last letting go on. Plain alone.
     pub silence: u32,
+    /// Whether it is plain or a command, and what comes after a command's finish.
+    pub ending: Ending,
 }

@@ -1,13 +1,34 @@
-//! Each rule of the two parties broken once, and kept at both ends of its window.
+//! Each rule of the two parties broken once, and kept at both ends of its window: of a plain transfer, and where a command
+//! has the rule too, of a command.
 
-use parties::{check_pair, Card, Pair, Track, Transfer};
+use parties::{check_pair, Card, Ending, Kind, Pair, Stretch, Track, Transfer};
 
 /// Three bytes: bit 8 one, then zero, then one.
 const STRING: [u8; 3] = [0xC1, 0x42, 0x83];
 
-/// A transfer of them with spans well inside their windows.
-fn transfer() -> Transfer {
-    let mut transfer = Card::WRITTEN.transfer(&STRING);
+/// A plain transfer of them.
+fn plain() -> Transfer {
+    inside(Card::WRITTEN.transfer(&STRING))
+}
+
+/// A command of them. After its finish the sender pulls DATA.
+fn command() -> Transfer {
+    let mut command = inside(Card::WRITTEN.command(&STRING));
+    command.ending = Ending::Command(vec![Stretch {
+        ticks: 50,
+        sender_data: true,
+        ..Stretch::default()
+    }]);
+    command
+}
+
+/// One of each kind.
+fn both() -> [Transfer; 2] {
+    [plain(), command()]
+}
+
+/// The transfer with spans well inside their windows.
+fn inside(mut transfer: Transfer) -> Transfer {
     transfer.first_take = 10;
     for byte in &mut transfer.bytes {
         byte.take = 60;
@@ -21,30 +42,59 @@ fn laid_out(transfer: &Transfer) -> Pair {
 }
 
 /// What `check_pair` says once `change` has changed the transfer.
-fn said(change: impl Fn(&mut Transfer)) -> Result<(), String> {
-    let mut changed = transfer();
+fn said(transfer: &Transfer, change: impl Fn(&mut Transfer)) -> Result<(), String> {
+    let mut changed = transfer.clone();
     change(&mut changed);
     check_pair(&laid_out(&changed), &STRING)
 }
 
-/// Sets one span to each value: those in `kept` keep the rules, those in `broken` break the rule whose words are given.
-fn span(set: impl Fn(&mut Transfer, u32), kept: &[u32], broken: &[u32], words: &str) {
+/// Sets one span of a transfer to each value: those in `kept` keep the rules, those in `broken` break the rule whose words
+/// are given.
+fn span_of(
+    transfer: &Transfer,
+    set: impl Fn(&mut Transfer, u32),
+    kept: &[u32],
+    broken: &[u32],
+    words: &str,
+) {
     for value in kept {
         assert_eq!(
-            said(|transfer| set(transfer, *value)),
+            said(transfer, |transfer| set(transfer, *value)),
             Ok(()),
             "{words}: {value}"
         );
     }
     for value in broken {
-        let error = said(|transfer| set(transfer, *value)).expect_err(words);
+        let error = said(transfer, |transfer| set(transfer, *value)).expect_err(words);
         assert!(error.contains(words), "{value}: {error}");
     }
 }
 
+/// The same for a span that both kinds have.
+fn span(set: impl Fn(&mut Transfer, u32), kept: &[u32], broken: &[u32], words: &str) {
+    for transfer in both() {
+        span_of(&transfer, &set, kept, broken, words);
+    }
+}
+
+/// The same for a span of a plain transfer alone.
+fn plain_span(set: impl Fn(&mut Transfer, u32), kept: &[u32], broken: &[u32], words: &str) {
+    span_of(&plain(), set, kept, broken, words);
+}
+
+/// The first tick that no rule binds.
+fn bound(pair: &Pair) -> u32 {
+    match pair.kind {
+        Kind::Plain => pair.total,
+        Kind::Command { finish } => finish + 1,
+    }
+}
+
 #[test]
-fn the_transfer_keeps_the_rules() {
-    assert_eq!(said(|_| {}), Ok(()));
+fn the_transfers_keep_the_rules() {
+    for transfer in both() {
+        assert_eq!(said(&transfer, |_| {}), Ok(()));
+    }
 }
 
 #[test]
@@ -56,15 +106,17 @@ fn start() {
         &[257, 1000],
         words,
     );
-    let mut late = laid_out(&transfer());
-    for pull in std::mem::take(&mut late.clock).pulls() {
-        late.clock.add(pull.from.max(1), pull.until);
+    for transfer in both() {
+        let mut late = laid_out(&transfer);
+        for pull in std::mem::take(&mut late.clock).pulls() {
+            late.clock.add(pull.from.max(1), pull.until);
+        }
+        let error = check_pair(&late, &STRING).unwrap_err();
+        assert!(
+            error.contains("byte 0, tick 1: the sender pulls CLK from tick 0"),
+            "{error}"
+        );
     }
-    let error = check_pair(&late, &STRING).unwrap_err();
-    assert!(
-        error.contains("byte 0, tick 1: the sender pulls CLK from tick 0"),
-        "{error}"
-    );
 }
 
 #[test]
@@ -85,7 +137,7 @@ fn ready_to_send() {
             words,
         );
     }
-    span(
+    plain_span(
         |t, value| t.last_hold = value,
         &[100, 101, 70_000],
         &[50, 99],
@@ -100,7 +152,7 @@ fn ready_to_send() {
             words,
         );
     }
-    span(
+    plain_span(
         |t, value| t.last_ready_to_send = value,
         &[1, 70_000],
         &[0],
@@ -120,21 +172,21 @@ fn ready_for_data() {
         );
     }
     let words = "last byte: the receiver pulls DATA 200 to 290 ticks after";
-    span(
+    plain_span(
         |t, value| t.bytes[2].ready_for_data = value,
         &[200, 290],
         &[1, 199, 291],
         words,
     );
     let words = "last byte: for 60 to 150 ticks";
-    span(
+    plain_span(
         |t, value| t.acknowledgement = value,
         &[60, 150],
         &[1, 59, 151],
         words,
     );
     let words = "last byte: the sender pulls CLK 1 to 60 ticks after that";
-    span(
+    plain_span(
         |t, value| t.after_acknowledgement = value,
         &[1, 60],
         &[0, 61],
@@ -170,13 +222,21 @@ fn data_is_free_in_the_set_up_and_steady_from_its_last_tick() {
             );
         }
     }
-    assert_eq!(said(|t| t.bytes[0].bits[3].moves = [5, 20, 69]), Ok(()));
+    for transfer in both() {
+        let moved = said(&transfer, |t| t.bytes[0].bits[3].moves = [5, 20, 69]);
+        assert_eq!(moved, Ok(()));
+    }
 }
 
 /// The sender's DATA turned over for one tick, at every tick of every byte's bits.
 #[test]
 fn one_tick_of_other_data_is_right_in_a_set_up_before_its_last_tick_alone() {
-    let base = laid_out(&transfer());
+    for transfer in both() {
+        one_tick_of_other_data(&laid_out(&transfer));
+    }
+}
+
+fn one_tick_of_other_data(base: &Pair) {
     let clock = base.clock.pulls();
     for tick in clock
         .iter()
@@ -204,7 +264,12 @@ fn one_tick_of_other_data_is_right_in_a_set_up_before_its_last_tick_alone() {
 
 #[test]
 fn the_receiver_keeps_off_data_in_the_bits() {
-    let base = laid_out(&transfer());
+    for transfer in both() {
+        receiver_early(&laid_out(&transfer));
+    }
+}
+
+fn receiver_early(base: &Pair) {
     let handover = base.clock.pulls()[9].from;
     let mut pair = base.clone();
     pair.receiver_data = Track::new();
@@ -253,8 +318,8 @@ fn handover() {
 #[test]
 fn end() {
     let words = "the tick of the last letting go is in the recording";
-    span(|t, value| t.silence = value, &[1, 2, 70_000], &[0], words);
-    let mut pair = laid_out(&transfer());
+    plain_span(|t, value| t.silence = value, &[1, 2, 70_000], &[0], words);
+    let mut pair = laid_out(&plain());
     pair.sender_data.add(pair.total - 1, pair.total);
     let error = check_pair(&pair, &STRING).unwrap_err();
     assert!(error.contains("nobody pulls DATA"), "{error}");
@@ -262,7 +327,7 @@ fn end() {
 
 #[test]
 fn no_other_pulls_occur() {
-    let base = laid_out(&transfer());
+    let base = laid_out(&plain());
     let (end, total) = (base.total - 1, base.total);
     let mut pair = base.clone();
     pair.clock.add(end, total);
@@ -279,12 +344,19 @@ fn no_other_pulls_occur() {
 /// One more DATA pull of the sender, of one tick, anywhere outside its bits and handovers is found.
 #[test]
 fn the_sender_keeps_off_data_outside_its_bits() {
-    let base = laid_out(&transfer());
+    for transfer in both() {
+        sender_outside(&laid_out(&transfer));
+    }
+}
+
+fn sender_outside(base: &Pair) {
     let clock = base.clock.pulls();
     let mut begin = 0;
     for byte in 0..=3 {
         // From the handover's end, where the sender has let go, to the next byte's first CLK pull.
-        let until = clock.get(9 * byte + 1).map_or(base.total, |pull| pull.from);
+        let until = clock
+            .get(9 * byte + 1)
+            .map_or(bound(base), |pull| pull.from);
         for tick in begin..until {
             let mut pair = base.clone();
             let mut extra = Track::new();

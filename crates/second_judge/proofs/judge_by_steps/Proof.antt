@@ -1,26 +1,11 @@
--- `second_judge::judge_by_steps` meets its contract: a number that `test` gives and that is not 0 is a refusal, after
--- which nothing is written; of any other answer `read_steps` ensures the promise. Assumes nothing.
-use mathlib.Core.Logic.{inl, inr}
-use mathlib.Core.Path.{refl}
+-- `second_judge::judge_by_steps` meets its contract, which is `judge`'s of the plain entry. Assumes nothing.
 use borrow.Author.Needs.{needs}
-use borrow.Author.Tests.{ne-eqb}
+use Rattle.second_judge.proofs.Laws.{as-long-answered}
 use Rattle.second_judge.proofs.judge_by_steps.Statement.{statement}
 use Rattle.second_judge.proofs.judge_by_steps.Tie as tie
-
-returns : tie.Need-returns
-returns c =
-    inl
-    (record {
-      a-refusal = simp (ne-eqb _ 0 (c .if1 .taken)) at (c .before .before .test .ensures .0);
-      tick-0 = refl;
-      count-0 = refl;
-      same-bytes = refl;
-      same-ledger = refl;
-    })
 
 pub judge-by-steps-spec : {M : Type 1} → statement M
 judge-by-steps-spec =
     tie.close
-    (tie.spec (λ c κs. search needs) returns
-    (λ c κs. c .before .before .before .before .test .ensures .1 (c .before .before .if1 .left)) (λ c. search needs)
-    (λ c. search needs) (λ c. inr (c .before .before .before .before .read-steps .ensures)))
+    (tie.spec (λ c κs. search needs) (λ c. as-long-answered (c .before .before .before .before .judge .ensures) .0)
+    (λ c. as-long-answered (c .before .before .before .before .judge .ensures) .1) (λ c. search needs))

@@ -1,4 +1,4 @@
-//! "The tick of the last letting go is in the recording, and from it on nobody pulls anything."
+//! "The tick of the last letting go is in the recording, and from it on nobody pulls anything." Of a plain recording alone.
 
 use super::{after, holds};
 use crate::limits::SILENCE;

@@ -2,7 +2,7 @@
 //!
 //! The sender's CLK pulls and the receiver's DATA pulls are counted, and each has its place in a bullet. The sender's DATA
 //! pulls are free in number, so it is their place that is looked at: from the CLK pull that begins a byte's bits until that
-//! byte's letting go, and nowhere else.
+//! byte's letting go, and nowhere else. After a command's finish none of this is looked at.
 
 use super::holds;
 use crate::timetable::Timetable;

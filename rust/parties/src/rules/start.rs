@@ -6,7 +6,7 @@ use crate::timetable::Timetable;
 
 /// That it holds DATA is that its first pull has no break; the next bullet says where that pull may end.
 pub(super) fn check(table: &Timetable) -> Result<(), String> {
-    let pulled = table.first_clock().from;
+    let pulled = table.clock_hold(0).from;
     holds(pulled == 0, 0, pulled, "the sender pulls CLK from tick 0")?;
     let take = table.hold(0).from;
     after(

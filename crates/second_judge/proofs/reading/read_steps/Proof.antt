@@ -4,9 +4,9 @@
 -- reading stands in a phase or at a verdict; there are at most a bit and at most a byte handed over for each step passed.
 -- The measure is the number of steps left. In the proofs `begun` is where the loop's turn begins, `tested` where its test
 -- has held, `called` where `hand_over` has returned. Assumes nothing.
-use mathlib.Core.List.{_∷_}
+use mathlib.Core.List.{[], _∷_}
 use Prim.Native.Nat.{ℕ, _+_, _*_, _-_, _%_, _≤_, _<_}
-use mathlib.Core.Path.{_≡_, ap, subst, sym}
+use mathlib.Core.Path.{_≡_, ap, sym}
 use mathlib.Core.Logic.{by-cases}
 use native.Mathlib.Decide.{ℕ-discrete}
 use native.Mathlib.Omega.{arith}
@@ -17,20 +17,21 @@ use Rattle.second_judge.specs.Numbers.{Among, standing, stay, the-end, w
 use Rattle.second_judge.specs.Promise.{Kept}
 use Rattle.second_judge.specs.Recording.{AtRest, lines, ticks}
 use Rattle.second_judge.proofs.Laws.{kept-same, kept-both, kept-from, ticks-none, ticks-more, ticks-grow}
+use Rattle.second_judge.proofs.Lists.{among-more, none-while-reading}
 use Rattle.second_judge.proofs.reading.read_steps.Statement.{statement}
 use Rattle.second_judge.proofs.reading.read_steps.Tie as tie
 
 abbrev Inv-loop : tie.InvT-loop
-Inv-loop file steps bytes₀ ledger₀ place₀ byte₀ before₀ count₀ tick₀ step₀
+Inv-loop entry file steps bytes₀ ledger₀ place₀ byte₀ before₀ count₀ tick₀ step₀
     bytes ledger place byte before count tick step =
     Kept count bytes₀ bytes × Kept (2 * count) ledger₀ ledger × (step ≤ steps) × (tick ≤ 65535 * step)
     × (tick ≡ ticks file step) × (place .since ≤ tick) × (place .«since_step» ≤ step)
     × (place .phase ≡ the-end
-    → (place .since < tick) × (place .«since_step» < step) × ((last : ℕ) → last + 1 ≡ step → AtRest (lines file last)))
-    × Among (the-end ∷ standing) (place .phase) × (byte .bits ≤ step) × (count ≤ step)
+    → (place .since < tick) × (place .«since_step» < step) × ((last : ℕ) → last + 1 ≡ step → AtRest entry (lines file last)))
+    × Among (the-end ∷ standing entry) (place .phase) × (byte .bits ≤ step) × (count ≤ step)
 
 abbrev μ-loop : tie.MeasureT-loop
-μ-loop file steps bytes₀ ledger₀ place₀ byte₀ before₀ count₀ tick₀ step₀
+μ-loop entry file steps bytes₀ ledger₀ place₀ byte₀ before₀ count₀ tick₀ step₀
     bytes ledger place byte before count tick step =
     steps - step
 
@@ -74,15 +75,27 @@ ended c =
 -- a step that leaves the reading in E shows the lines at rest
 rested : (c : tie.After-after2 Inv-loop μ-loop) →
     let tested = tested-of (c .before .before .before .before .before .before) in
-    c .after2 .result .phase ≡ the-end → AtRest (lines (now (start-of (tested .before) .args .file)) (tested .before .loop .step))
+    let start = start-of (tested .before) in
+    c .after2 .result .phase ≡ the-end
+    → AtRest (start .args .entry) (lines (now (start .args .file)) (tested .before .loop .step))
 rested c in-the-end =
     let called = c .before .before .before .before .before .before in
     let next = called .before .before .before .next in
     let shown = called .before .before .before .before .before .step-at .ensures .1 in
     let went = c .after2 .ensures .1 in
     by-cases (ℕ-discrete (next .result) stay)
-    (λ stays. omega (arith, shown, next .ensures .2 (went .0 in-the-end stays) stays))
-    (λ goes. omega (arith, shown, next .ensures .1 (went .1 in-the-end goes)))
+    (λ stays. rw shown at (next .ensures .2 (went .stayed in-the-end stays) stays))
+    (λ goes. rw shown at (next .ensures .1 (went .came in-the-end goes)))
+
+-- the reading stands where this entry may
+stood : (c : tie.After-after2 Inv-loop μ-loop) →
+    let tested = tested-of (c .before .before .before .before .before .before) in
+    Among (the-end ∷ standing (start-of (tested .before) .args .entry)) (c .after2 .result .phase)
+stood c =
+    let called = c .before .before .before .before .before .before in
+    let tested = tested-of called in
+    let next = called .before .before .before .next in
+    c .after2 .ensures .1 .stands (start-of (tested .before) .args .entry) (tested .before .loop .inv .8) (next .ensures .0)
 
 loop-holds : tie.Need-loop-holds Inv-loop μ-loop
 loop-holds c =
@@ -95,7 +108,7 @@ loop-holds c =
       omega arith,
       omega arith,
       λ in-the-end. absurd (omega (arith, in-the-end, place .0)),
-      place .3,
+      rw (place .0) tt,
       omega arith,
       omega arith,
     )
@@ -106,8 +119,7 @@ after-requires-2 c κs =
     let inv = tested .before .loop .inv in
     let early : tested .before .loop .tick ≤ 2000000000 =
     omega (arith, inv, tested .loop-test .taken, start-of (tested .before) .pre .few) in
-    let next = c .before .before .before .before .before .before .before .before .next in
-    ((inv .5, inv .6, early, inv .8), next .ensures .0)
+    (inv .5, inv .6, early)
 
 same-length : tie.Need-same-length Inv-loop μ-loop
 same-length c = stored (called-of (c .before .before)) .0 .as-long
@@ -123,9 +135,10 @@ returns c =
     let step = tested .before .loop .step in
     let number = c .before .before .found-in .result .number in
     let found = c .before .before .found-in .ensures in
-    let verdict : Among while-reading number = simp (ne-eqb number 0 (c .if1 .taken)) at (found .0) in
-    let no-complete : number ≡ 20 → ⊥ = λ same. subst (Among while-reading) same verdict in
-    let no-cut : number ≡ 22 → ⊥ = λ same. subst (Among while-reading) same verdict in
+    let verdict : Among (while-reading (start .args .entry)) number = simp (ne-eqb number 0 (c .if1 .taken)) at (found .0) in
+    let never = none-while-reading (start .args .entry) number verdict in
+    let no-complete : number ≡ 20 → ⊥ = λ same. never (rw same tt) in
+    let no-cut : number ≡ 22 → ⊥ = λ same. never (rw same tt) in
     let grown =
     ticks-grow (now (start .args .file)) (step + 1) (start .args .steps) (omega (arith, tested .loop-test .taken)) in
     record {
@@ -171,7 +184,7 @@ loop-again c =
             let same : last ≡ tested .before .loop .step = omega (arith, this) in
             rw same (rested (c .before .before .before) in-the-end),
       ),
-      place .2,
+      stood (c .before .before .before),
       omega (arith, inv, c .before .before .before .before .after .ensures),
       omega (arith, inv, called .hand-over .ensures),
     )
@@ -190,7 +203,8 @@ returns-2 c =
     let all : loop .step ≡ start .args .steps = omega (arith, c .before .loop-test .left, loop .inv .2) in
     let total = ap (ticks (now (start .args .file))) all in
     record {
-      a-verdict = ran-out .0;
+      a-verdict =
+          among-more (20 ∷ 22 ∷ []) (while-reading (start .args .entry)) (c .ran-out .result .number) (ran-out .0);
       timed =
           record {
             at-the-end = λ at-cut. omega (arith, ran-out .2 .at-the-end at-cut, loop .inv, total, start .pre);
@@ -206,5 +220,5 @@ read-steps-spec =
     tie.close
     (tie.spec Inv-loop μ-loop (λ c κs. search needs) (λ c κs. search needs) loop-holds (λ c κs. search needs)
     (λ c. search needs) (λ c. search needs) (λ c κs. search needs) (λ c κs. search needs) (λ c κs. search needs)
-    after-requires-2 (λ c κs. search needs) same-length same-length-2 returns add-step loop-less loop-again
+    after-requires-2 (λ c κs. stood c) same-length same-length-2 returns add-step loop-less loop-again
     ran-out-requires (λ c. search needs) (λ c. search needs) returns-2)

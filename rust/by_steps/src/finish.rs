@@ -1,0 +1,61 @@
+//! The finish of a command recording (#101), and what comes after it.
+//!
+//! "The finish is the first tick with ATN released; it must show (1,1), in B or
+//! in a carried handover, 100 or more ticks after the last take, and hands the
+//! last byte over."
+//!
+//! "In B" is read as: B was entered in an earlier tick. The tick of the take
+//! leads into B but is still read in the handover, and it comes 0 ticks after
+//! the take besides. The take of a carried handover is the one that document 01
+//! gives it, offset 1, so its finish comes at offset 101 or later.
+
+use crate::limits::FINISH_AFTER_TAKE;
+use crate::numbers::{ATTENTION_RELEASED, COMPLETE, MOVED_AFTER_THE_END};
+use crate::reader::{Decision, Reader};
+use crate::step::Lines;
+
+/// What hands a byte over.
+pub enum HandedOverBy {
+    /// Document 01, C: "Entering it after a byte hands that byte over."
+    ReadyToSend,
+    /// The finish, which "hands the last byte over". With it comes the answer
+    /// of "running out gives 20 with the finish tick".
+    Finish(Decision),
+}
+
+/// In B after a byte or in a carried handover the reading was stopped by
+/// `stopped`: the finish, if it is an ATN release that shows what it must, and
+/// otherwise `stopped` as it is.
+pub fn finish(
+    reader: &Reader,
+    stopped: Decision,
+    last_take: u32,
+) -> Result<HandedOverBy, Decision> {
+    let released = stopped.number == ATTENTION_RELEASED;
+    let both_hold = reader.lines_at_attention() == Some(Lines::PULLED);
+    let too_soon = stopped.tick < last_take + FINISH_AFTER_TAKE;
+    if released && both_hold && !too_soon {
+        Ok(HandedOverBy::Finish(Decision {
+            number: COMPLETE,
+            ..stopped
+        }))
+    } else {
+        Err(stopped)
+    }
+}
+
+/// "After the finish only a pull of ATN matters: 37."
+pub fn after_finish(reader: &Reader, finish: Decision) -> Decision {
+    let mut tick = finish.tick;
+    for (number, step) in (finish.step..).zip(reader.steps_from_attention()) {
+        if step.attention_pulled() {
+            return Decision {
+                number: MOVED_AFTER_THE_END,
+                tick,
+                step: number,
+            };
+        }
+        tick += step.duration();
+    }
+    finish
+}
