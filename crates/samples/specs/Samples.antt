@@ -1,18 +1,18 @@
--- Document 01, "Sample recordings": the starred ones, in its order, each judged as a whole file; a cut after a byte;
--- and every refusal.
-use Rattle.answer.specs.Basics.{ℕ, List, [], _∷_, _++_, map, replicate, _≡_}
+-- Document 01, "Sample recordings": the starred ones, in its order, each judged as a whole file; a cut after a byte; every refusal; and
+-- recordings for the command entry.
+use Rattle.answer.specs.Basics.{ℕ, _+_, List, [], _∷_, _++_, map, replicate, _≡_}
 use Rattle.answer.specs.{Types.Answer, Answers._over_}
 use Rattle.recording.specs.{Types.Step, FileOf.headerBytes, FileOf.fileOf}
 use Rattle.recording.specs.SampleSteps.{_∶_, zeros, s1With, s1, s80With, s1File}
-use Rattle.transfer.specs.{Limits.standardLimits, Spans.s1 as s1Spans, Spans.ticks}
+use Rattle.transfer.specs.{Types.Limits, Limits.standardLimits, Limits.commandLimits, Spans.s1 as s1Spans, Spans.ticks}
 use Rattle.judge.specs.Judged.{Judged, leaves, tickLines, judged}
 
 -- A file and the buffers lent with it, the answer, and what the two buffers then begin with.
 pub data Sample : Type 0 where
   sample : (file lent-bytes lent-ledger : List ℕ) → Answer → (bytes ledger : List ℕ) → Sample
 
-abbrev pub judgedSample : Sample → Judged
-judgedSample (sample file lent-bytes lent-ledger answer bytes ledger) = judged standardLimits file lent-bytes lent-ledger
+abbrev pub judgedSample : Limits → Sample → Judged
+judgedSample L (sample file lent-bytes lent-ledger answer bytes ledger) = judged L file lent-bytes lent-ledger
 
 abbrev pub expectedOf : Sample → Judged
 expectedOf (sample file lent-bytes lent-ledger answer bytes ledger) = leaves answer (bytes over lent-bytes) (ledger over lent-ledger)
@@ -102,11 +102,49 @@ refusals =
     ∷ refuses s1File markedBytes (replicate 1999 0xA5A5A5A5) 9 0
     ∷ []
 
-abbrev pub all : List Sample
-all = samples ++ (cutAfterByte ∷ refusals)
+-- #101. A command byte, its bits 0 or 4 each, with ATN pulled: up to the CLK pull after bit 8, which is 1,350 ticks and 19 steps later.
+abbrev pub commandBits : List ℕ → List Step
+commandBits [] = []
+commandBits (d ∷ ds) = 70 ∶ (3 + d) ∷ 60 ∶ (1 + d) ∷ commandBits ds
 
-abbrev pub SamplesHold : Type 0
-SamplesHold = map judgedSample all ≡ map expectedOf all
+abbrev pub commandByte : List ℕ → List Step
+commandByte ds = 200 ∶ 7 ∷ 50 ∶ 5 ∷ 60 ∶ 1 ∷ commandBits ds
+
+-- LISTEN 8, secondary 15: 28 6F, the second taken at tick 2,760; then `hold` ticks, and the steps that follow.
+abbrev pub listen : (hold : ℕ) → List Step → List Step
+listen hold after =
+    commandByte (0 ∷ 0 ∷ 0 ∷ 4 ∷ 0 ∷ 4 ∷ 0 ∷ 0 ∷ [])
+    ++ (30 ∶ 3 ∷ (commandByte (4 ∷ 4 ∷ 4 ∷ 4 ∷ 0 ∷ 4 ∷ 4 ∷ 0 ∷ []) ++ (30 ∶ 3 ∷ hold ∶ 7 ∷ after)))
+
+abbrev pub commands : List Sample
+commands =
+    -- The finish, and lines that move after it.
+    judges (listen 200 (20 ∶ 6 ∷ 30 ∶ 2 ∷ 50 ∶ 0 ∷ [])) (record { number = 20; tick = 2960; step = 41; count = 2 }) (0x28 ∷ 0x6F ∷ [])
+    (1350 ∷ 1380 ∷ 2730 ∷ 2760 ∷ [])
+    -- ATN pulled again after it: the last byte is counted. Too soon, or never: it is not.
+    ∷ judges (listen 200 (1 ∶ 6 ∷ 1 ∶ 7 ∷ [])) (record { number = 37; tick = 2961; step = 42; count = 2 }) (0x28 ∷ 0x6F ∷ [])
+    (1350 ∷ 1380 ∷ 2730 ∷ 2760 ∷ [])
+    ∷ judges (listen 99 (1 ∶ 6 ∷ [])) (record { number = 39; tick = 2859; step = 41; count = 1 }) (0x28 ∷ []) (1350 ∷ 1380 ∷ [])
+    ∷ judges (listen 200 []) (record { number = 22; tick = 2960; step = 41; count = 1 }) (0x28 ∷ []) (1350 ∷ 1380 ∷ [])
+    -- The byte 0x80 with DATA pulled on: the finish at offset 101, both ticks at offset 1.
+    ∷ sends (commandByte (0 ∷ 0 ∷ 0 ∷ 0 ∷ 0 ∷ 0 ∷ 0 ∷ 4 ∷ []) ++ (101 ∶ 7 ∷ 1 ∶ 6 ∷ [])) 1451 20 0x80 1351 1351
+    ∷ stops (200 ∶ 7 ∷ 50 ∶ 5 ∷ 200 ∶ 1 ∷ []) 38 449 2
+    -- S1, a data transfer; no steps; and a refusal.
+    ∷ stops s1 39 0 0
+    ∷ stops [] 22 0 0
+    ∷ refuses s1File markedBytes (replicate 1999 0xA5A5A5A5) 9 0
+    ∷ []
+
+-- Commands handed to the plain entry.
+abbrev pub commandsAsData : Sample
+commandsAsData = stops (listen 200 (20 ∶ 6 ∷ [])) 23 0 0
+
+abbrev pub all : List Sample
+all = samples ++ (cutAfterByte ∷ commandsAsData ∷ refusals)
+
+pub record SamplesHold : Type 0 where
+  pub plain : map (judgedSample standardLimits) all ≡ map expectedOf all
+  pub command : map (judgedSample commandLimits) commands ≡ map expectedOf commands
 
 -- S1's file is the one that document 01 prints.
 abbrev pub S1Printed : Type 0
