@@ -82,7 +82,8 @@ promise : (L : Limits) → Consistent L → (file b g : List ℕ) (j : Judged) �
 promise L times file b g j e =
     record { given = e; explained = λ good. subst⁻¹ (FileDemand3 L file) e (file-demand3 L times file b g good) }
 
-made : (L : Limits) → Consistent L → (file b g : List ℕ) (j : Judged) (K : Limits) → K ≡ L → j ≡ judged K file b g → JudgePromise L file b g j
+made : (L : Limits) → Consistent L → (file b g : List ℕ) (j : Judged) (K : Limits) → K ≡ L → j ≡ judged K file b g
+    → JudgePromise L file b g j
 made L times file b g j K e h = promise L times file b g j (h ∙ ap (λ (M : Limits). judged M file b g) e)
 
 pub standard-promised : (file b g : List ℕ) (j : Judged) (K : Limits) → K ≡ standardLimits → j ≡ judged K file b g

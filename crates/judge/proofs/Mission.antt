@@ -22,7 +22,8 @@ use Rattle.transfer.proofs.{DecisionTicks.decision-tick, Demand3.demand3, Deman
 use Rattle.transfer.proofs.{Demand3.commands-consistent, Facts.pair-sends-bytes, Facts.never-both}
 use Rattle.transfer.proofs.Stages.{Told, is-running, is-holding, is-end, is-past, is-decided, told}
 use Rattle.judge.specs.Demand3.{GoodWithRoom}
-use Rattle.judge.specs.Judged.{Judged, leaves, byteRoom, ledgerRoom, tickLines, tickList, twoTicks, stepHolding, verdictLeaves, judged}
+use Rattle.judge.specs.Judged.{Judged, leaves, byteRoom, ledgerRoom, tickLines, tickList, twoTicks, stepHolding, verdictLeaves}
+use Rattle.judge.specs.Judged.{judged}
 use Rattle.judge.specs.Mission.{Holds, AtTheEnd, endOf, given, IsFinished, Mission, MissionLaw, StandardMissionLaw, NeverBothLaw}
 use Rattle.judge.proofs.{HoldingLaws.held-by-step, HoldingLaws.held-at-the-end, LedgerLists.length-values}
 use Rattle.judge.proofs.JudgedLaws.{good-steps, is-refused, few-places, few-ledger-places, is-verdict}

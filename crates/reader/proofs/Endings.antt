@@ -7,7 +7,8 @@ use types.Run.{OneOf, miss}
 use Rattle.transfer.specs.Moves.{cutAt, Stage, stage, hasFallen, isDecided, released, noByte, heldByte, decisionIn, decisionOf}
 use Rattle.transfer.specs.Phases.{Stop}
 use Rattle.answer.specs.Types.{AttentionReleased}
-use Rattle.transfer.specs.Types.{Limits, Phase, Start, FirstHold, Hold, ReadyToSend, ReadyForData, Acknowledgement, Acknowledged, SetUp, Valid}
+use Rattle.transfer.specs.Types.{Limits, Phase, Start, FirstHold, Hold, ReadyToSend, ReadyForData, Acknowledgement, Acknowledged, SetUp}
+use Rattle.transfer.specs.Types.{Valid}
 use Rattle.transfer.specs.Types.{Open, Carried, End, Finished, Decided}
 use Rattle.transfer.proofs.phase.Phase.{the-type}
 use Rattle.transfer.proofs.Stages.{Told, is-running, is-holding, is-end, is-past, is-decided, told}

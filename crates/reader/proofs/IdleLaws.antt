@@ -6,7 +6,8 @@ use mathlib.Core.Path.{refl, sym, ap, subst⁻¹, _∙_}
 use borrow.Author.Tests.{lt-ltb, le-ltb, ltb-true, ltb-false, eq-eqb}
 use Rattle.transfer.specs.Moves.{Stage, stage, isDecided, released, heed, move}
 use Rattle.transfer.specs.Phases.{below, Move, Go, Hand, Stop, next, same}
-use Rattle.transfer.specs.Types.{Entry, Plain, Command, Limits, Lines, Phase, Start, FirstHold, Hold, ReadyToSend, ReadyForData, Acknowledgement, Acknowledged}
+use Rattle.transfer.specs.Types.{Entry, Plain, Command, Limits, Lines, Phase, Start, FirstHold, Hold, ReadyToSend, ReadyForData}
+use Rattle.transfer.specs.Types.{Acknowledgement, Acknowledged}
 use Rattle.transfer.specs.Types.{SetUp, Valid, Open, Carried, End, Finished, Decided}
 use Rattle.reader.specs.{States.follow, States.nextState, After.stateAfter, After.handedIn, After.handedOver}
 use Rattle.reader.specs.Idle.{ticksBelow, Lasts, always, until, lasts, ticksIn, idleTicks, later, Idle, IdleLaw}

@@ -58,7 +58,8 @@ module _ (L : Limits) where
         ih (record { phase = p; tick = s .tick + 1; count = n }) (undecided (L .entry) p l e)
         ∙ ap (λ (t : ℕ). run L t p w) (add-one (s .tick))
 
-    moved : (l : Lines) (x : Move) → Climbs (s .tick) (s .phase) (settled (L .entry) l) x → past s (follow s x) w ≡ onward x (s .tick) beyond
+    moved : (l : Lines) (x : Move) → Climbs (s .tick) (s .phase) (settled (L .entry) l) x
+        → past s (follow s x) w ≡ onward x (s .tick) beyond
     unfolding follow
     moved l (Stop f) stops = stopped f s w
     moved l (Go p) (goes a f e) = none-handed s (follow s (Go p)) w refl ∙ next-run p _ l e

@@ -3,7 +3,8 @@ use Rattle.answer.specs.Basics.{ℕ, zero, suc, _+_, _-_, _^_, _<_, Bool, true,
 use native.Mathlib.Omega.{arith}
 use mathlib.Core.Path.{refl, sym, ap, subst, _∙_}
 use borrow.Author.Tests.{eq-eqb, ne-eqb, lt-ltb, le-ltb, leb-true, leb-false}
-use Rattle.transfer.specs.{Types.Entry, Types.Lines, Types.Limits, Types.Byte, Types.Phase, Moves.finishing, Moves.noByte, Moves.heldByte, Moves.decisionOf}
+use Rattle.transfer.specs.{Types.Entry, Types.Lines, Types.Limits, Types.Byte, Types.Phase, Moves.finishing, Moves.noByte}
+use Rattle.transfer.specs.{Moves.heldByte, Moves.decisionOf}
 use Rattle.transfer.specs.Phases.{below, upTo, Move, same, afterBit}
 use Rattle.reader.specs.States.{follow, readIn, releasedIn, finishedIn, heededIn}
 use Rattle.reader.specs.declared.state.State.{State}

@@ -1,4 +1,5 @@
--- Where two rows of document 01, or of #101, meet: tick lists whose outcomes show how they are read there, and on which tick each time falls.
+-- Where two rows of document 01, or of #101, meet: tick lists whose outcomes show how they are read there, and on which tick each time
+-- falls.
 -- docs/DECISIONS.md gives the reasons.
 use Rattle.answer.specs.Basics.{ℕ, Bool, true, _&&_, List, [], _∷_, _++_, length, _≡_, eqb}
 use Rattle.transfer.specs.{Types.Limits, Limits.standardLimits, Limits.commandLimits, Outcome.outcome}
@@ -100,7 +101,7 @@ readings =
     ∷ reads [] 22 0 0
     ∷ []
 
--- A command byte 0x80 with ATN pulled, from tick 0 to the CLK pull after bit 8, which is tick 1,350; then CLK and DATA pulled for some ticks.
+-- A command byte 0x80 from tick 0 to the CLK pull after bit 8, which is tick 1,350; then CLK and DATA pulled for `hold` ticks.
 abbrev pub carried80 : (hold : ℕ) → List Span
 carried80 hold = attended (200 ∶ 6 ∷ 50 ∶ 4 ∷ 60 ∶ 0 ∷ (bits (0 ∷ 0 ∷ 0 ∷ 0 ∷ 0 ∷ 0 ∷ 0 ∷ 4 ∷ []) ++ (hold ∶ 6 ∷ [])))
 
@@ -131,8 +132,8 @@ commandReadings =
     -- After the finish a pull of ATN is 37, whatever the others show, and the last byte is counted.
     ∷ reads (listen 200 ++ (1 ∶ 6 ∷ 1 ∶ 7 ∷ [])) 37 2961 2
     ∷ reads (listen 200 ++ (1 ∶ 6 ∷ 9 ∶ 0 ∷ 1 ∶ 1 ∷ [])) 37 2970 2
-    -- ATN released elsewhere is 39, before the phase's rows: in A, where tick 0 would be 25 and where 256 would be 24; in B before any byte; in
-    -- C; in D at 199, where it would be 38; in a bit, where it would be 33; in an open handover, where it would be 35.
+    -- ATN released elsewhere is 39, before the phase's rows: in A, where tick 0 would be 25 and 256 would be 24; in B before any byte; in C;
+    -- in D at 199, where it would be 38; in a bit, where it would be 33; in an open handover, where it would be 35.
     ∷ reads (1 ∶ 0 ∷ []) 39 0 0
     ∷ reads (attended (256 ∶ 2 ∷ []) ++ (1 ∶ 2 ∷ [])) 39 256 0
     ∷ reads (attended (200 ∶ 6 ∷ []) ++ (1 ∶ 6 ∷ [])) 39 200 0

@@ -4,7 +4,8 @@ use mathlib.Core.Path.{refl, sym, ap, ap₂, _∙_}
 use lib.ListN.{length-map, length-replicate}
 use Rattle.transfer.specs.Types.{Entry, Plain, Command, Limits, Lines}
 use Rattle.transfer.specs.{Rules.SendingRules, Rules.PlanRules, Facts.UntilFinish, Facts.AttentionIs, Facts.AttentionLaw}
-use Rattle.transfer.specs.Parties.{Pulls, pulls, past, attention, sets, offers, Bit, Frame, Free, Sending, more, last, lastCommand, Plan}
+use Rattle.transfer.specs.Parties.{Pulls, pulls, past, attention, sets, offers, Bit, Frame, Free, Sending, more, last}
+use Rattle.transfer.specs.Parties.{lastCommand, Plan}
 use Rattle.transfer.specs.Parties.{freeTick, bitsTrack, handoverTrack, frameTrack, sendingTrack, track}
 use Rattle.transfer.specs.{Pair.senderPulls, Pair.receiverPulls, Pair.attentionTrack, Pair.gives, Demand3.Explained}
 use Rattle.transfer.proofs.Stages.{plain-is-no-command}

@@ -7,15 +7,18 @@ use mathlib.Core.Path.{refl, ap, _∙_, subst, subst⁻¹}
 use borrow.Author.Tests.{ltb-true, ltb-false, leb-true, leb-false}
 use Rattle.transfer.specs.{Rules.PlanRules, Demand3.Consistent}
 use Rattle.transfer.specs.Phases.{below, upTo, Move, Go, Stop, next, same, withBit, handover, afterBit}
-use Rattle.transfer.specs.Moves.{cutAt, Stage, Running, Holding, Ended, Past, Fallen, stage, finishing, released, heed, unlessFallen, move}
+use Rattle.transfer.specs.Moves.{cutAt, Stage, Running, Holding, Ended, Past, Fallen, stage, finishing, released, heed}
+use Rattle.transfer.specs.Moves.{unlessFallen, move}
 use Rattle.transfer.specs.Moves.{decisionIn}
 use Rattle.transfer.specs.Outcome.{Outcome, decided, ended, give, onward, run}
-use Rattle.transfer.specs.Parties.{Pulls, underWay, nobody, held, clock, clockHeld, sets, offers, Free, finishTick, freeTick, Plan, track}
+use Rattle.transfer.specs.Parties.{Pulls, underWay, nobody, held, clock, clockHeld, sets, offers, Free, finishTick, freeTick}
+use Rattle.transfer.specs.Parties.{Plan, track}
 use Rattle.transfer.specs.Parties.{sendingBytes, planBytes}
-use Rattle.transfer.specs.Types.{Entry, Plain, Command, Limits, Lines, Byte, Phase, Start, FirstHold, Hold, ReadyToSend, ReadyForData, Acknowledgement}
+use Rattle.transfer.specs.Types.{Entry, Plain, Command, Limits, Lines, Byte, Phase, Start, FirstHold, Hold, ReadyToSend}
+use Rattle.transfer.specs.Types.{ReadyForData, Acknowledgement}
 use Rattle.transfer.specs.Types.{Acknowledged, SetUp, Valid, Open, Carried, End, Finished, Decided}
 use Rattle.answer.specs.Types.{Fault, Attention, ClockStall, Verdict, Complete, Cut, Broken}
-use Rattle.transfer.proofs.{Rows.lines, Forward.shows, Plans.sends}
+use Rattle.transfer.proofs.{Rows.lines, Rows.goingOn, Forward.shows, Plans.sends}
 use Rattle.transfer.proofs.Stages.{Told, is-running, is-holding, is-end, is-past, is-decided, told}
 use Rattle.transfer.proofs.Shapes.{clockKept, leaves, stay, one, many, Tidy, Frees, releases, finishes, opens, carries, Shape}
 
@@ -109,13 +112,13 @@ module _ (L : Limits) where
   abbrev Row : Phase → (clk dat : Bool) → Type 0
   Row p c d =
       (now : ℕ) (w : List Lines) → Holds w → InTime p now
-      → Sound (From p now (lines (underWay (L .entry)) c d ∷ w)) (onward (next L now p c d) now (λ (q : Phase). run L (suc now) q w))
+      → Sound (From p now (goingOn L c d ∷ w)) (onward (next L now p c d) now (λ (q : Phase). run L (suc now) q w))
 
   row-start : (c d : Bool) → Row Start c d
   unfolding next
   row-start false d now w ih i = at (eqb now 0)
     where
-      at : (t : Bool) → Sound (From Start now (lines (underWay (L .entry)) false d ∷ w)) (onward (if t then Stop Fault.BadStart
+      at : (t : Bool) → Sound (From Start now (goingOn L false d ∷ w)) (onward (if t then Stop Fault.BadStart
           else Stop Fault.OutOfTurn) now (λ (q : Phase). run L (suc now) q w))
       at true = dead _ _ _
       at false = dead _ _ _
@@ -228,11 +231,11 @@ module _ (L : Limits) where
     row-carried end-mark value s true true now w ih i = record { prove = λ h. on _ (ih (suc now) (Carried end-mark value s) tt .prove h) }
       where
         by-shape : (l : List Byte) (js : List Pulls) → w ≡ map (shows L) js → Shape L (Carried end-mark value s) (suc now) js l
-            → From (Carried end-mark value s) now (lines (underWay (L .entry)) true true ∷ w) l
-        by-shape l js e (inl h) = record { js = clockKept ∷ js; gives = ap (λ x. lines (underWay (L .entry)) true true ∷ x) e; shape = inl (stay h) }
-        by-shape l js e (inr h) = record { js = clockHeld ∷ js; gives = ap (λ x. lines (underWay (L .entry)) true true ∷ x) e; shape = inr (stay h) }
+            → From (Carried end-mark value s) now (goingOn L true true ∷ w) l
+        by-shape l js e (inl h) = record { js = clockKept ∷ js; gives = ap (λ x. goingOn L true true ∷ x) e; shape = inl (stay h) }
+        by-shape l js e (inr h) = record { js = clockHeld ∷ js; gives = ap (λ x. goingOn L true true ∷ x) e; shape = inr (stay h) }
 
-        on : (l : List Byte) → From (Carried end-mark value s) (suc now) w l → From (Carried end-mark value s) now (lines (underWay (L .entry)) true true ∷ w) l
+        on : (l : List Byte) → From (Carried end-mark value s) (suc now) w l → From (Carried end-mark value s) now (goingOn L true true ∷ w) l
         on l r = by-shape l (r .js) (r .gives) (r .shape)
     row-carried end-mark value s true false now w ih i =
         if-upTo _ _ _ _ _ _ _
@@ -270,7 +273,7 @@ module _ (L : Limits) where
     -- The last set-up tick shows b, and the first valid tick too.
     to-valid : (end-mark : Bool) (bits-left value s : ℕ) (b : Bool) (now : ℕ) (w : List Lines) → Holds w
         → InTime (SetUp end-mark value b s bits-left) now
-        → Sound (From (SetUp end-mark value b s bits-left) now (lines (underWay (L .entry)) false b ∷ w))
+        → Sound (From (SetUp end-mark value b s bits-left) now (goingOn L false b ∷ w))
         (run L (suc now) (Valid end-mark value b now bits-left) w)
     to-valid end-mark bits-left value s b now w ih i =
         goes (offers b)
@@ -301,7 +304,7 @@ module _ (L : Limits) where
 
     on-valid : (end-mark : Bool) (bits-left value s : ℕ) (b : Bool) (now : ℕ) (w : List Lines) → Holds w
         → InTime (Valid end-mark value b s bits-left) now
-        → Sound (From (Valid end-mark value b s bits-left) now (lines (underWay (L .entry)) false b ∷ w))
+        → Sound (From (Valid end-mark value b s bits-left) now (goingOn L false b ∷ w))
         (onward (if below (L .«valid_most») s now then Go (Valid end-mark value b s bits-left)
         else Stop ClockStall) now (λ (q : Phase). run L (suc now) q w))
     on-valid end-mark bits-left value s b now w ih i =

@@ -10,13 +10,14 @@ use Rattle.transfer.specs.Demand3.{Consistent, CompleteWith, shownSender
 use Rattle.transfer.specs.Demand3.{Demand3Law, StandardDemand3, CommandDemand3, CommandsConsistent}
 use Rattle.transfer.specs.Types.{Limits, Lines, Byte, Start}
 use Rattle.answer.specs.Types.{Complete}
-use Rattle.transfer.proofs.{Rows.lines, Forward.shows, Forward.CompleteBy, Forward.along, Backward.Planned, Backward.back}
+use Rattle.transfer.proofs.{Rows.lines, Rows.goingOn, Forward.shows, Forward.CompleteBy, Forward.along, Backward.Planned}
+use Rattle.transfer.proofs.{Backward.back}
 use Rattle.transfer.proofs.{Stages.plain-is-no-command, Shown.bare, Shown.shows-plan}
 
 gives-shows : (L : Limits) (js : List Pulls)
     → gives (map (attention (L .entry)) js) (map senderPulls js) (map receiverPulls js) ≡ map (shows L) js
 gives-shows L [] = refl
-gives-shows L (pulls c s r ∷ js) = ap (λ x. lines (underWay (L .entry)) c (r || s) ∷ x) (gives-shows L js)
+gives-shows L (pulls c s r ∷ js) = ap (λ x. goingOn L c (r || s) ∷ x) (gives-shows L js)
 gives-shows L (past c s r ∷ js) = ap (λ x. lines false c (r || s) ∷ x) (gives-shows L js)
 
 -- Who pulls is all that the two tracks have.
@@ -44,7 +45,9 @@ module _ (L : Limits) (times : Consistent L) (w : List Lines) where
   reads string sender receiver dated x =
       let p = x .pair in
       let given : map (shows L) (track (p .plan)) ≡ w =
-      sym (gives-shows L (track (p .plan))) ∙ sym (ap₂ (gives (attentionTrack (L .entry) (p .plan))) (p .sends) (p .receives)) ∙ x .gives-it in
+      sym (gives-shows L (track (p .plan)))
+      ∙ sym (ap₂ (gives (attentionTrack (L .entry) (p .plan))) (p .sends) (p .receives))
+      ∙ x .gives-it in
       let bytes = subst⁻¹ (λ l. CompleteBy (run L 0 Start (map (shows L) (track (p .plan)))) l) (p .dated-so) (along L times
       (p .plan) (p .rules)) in
       subst (λ v. CompleteBy (run L 0 Start v) dated) given bytes

@@ -5,15 +5,17 @@ use native.Mathlib.{Omega.arith, Nat.pow-suc}
 use mathlib.Core.Path.{refl, sym, ap, _∙_, subst}
 use borrow.Author.Needs.{needs}
 use Rattle.transfer.specs.{Types.Entry, Types.Plain, Types.Command, Types.Limits, Types.Lines, Types.Phase, Types.Start}
-use Rattle.transfer.specs.{Limits.standardLimits, Limits.commandLimits, Outcome.onward, Outcome.run, Outcome.outcome, Demand3.Explains}
+use Rattle.transfer.specs.{Limits.standardLimits, Limits.commandLimits, Outcome.onward, Outcome.run, Outcome.outcome}
+use Rattle.transfer.specs.{Demand3.Explains}
 use Rattle.transfer.specs.{Demand3.CompleteWith, Moves.stage, Moves.finishing, Moves.released, Moves.heed, Moves.move}
 use Rattle.transfer.specs.Spans.{_∶_, ticks, s1, listen}
 use Rattle.transfer.specs.Phases.{Stop, below, upTo, next, same, withBit, handover, afterBit}
-use Rattle.transfer.specs.Parties.{Bit, Frame, Free, Sending, more, last, lastCommand, valueOf, sendingBytes, planBytes}
+use Rattle.transfer.specs.Parties.{Bit, Frame, Free, Plan, Sending, more, last, lastCommand, valueOf, sendingBytes, planBytes}
 use Rattle.transfer.specs.Rules.{BitRule, FrameRules, SendingRules, PlanRules}
 use Rattle.transfer.specs.Pair.{senderTrack, receiverTrack, attentionTrack, gives, values}
-use Rattle.transfer.specs.Facts.{AllBytes, SomeBytes, PairSendsBytes, S1Explained, oneTick, byte80, TwoPairs}
-use Rattle.transfer.specs.Facts.{ListenExplained, command80, FreeAfterFinish, NeverBoth}
+use Rattle.transfer.specs.Facts.{AllBytes, SomeBytes, PairSendsBytes, S1Explained, oneTick, frame80}
+use Rattle.transfer.specs.Facts.{Explains80, byte80, TwoPairs, ListenExplained, command80, receiverAfter, senderAfter}
+use Rattle.transfer.specs.Facts.{FreeAfterFinish, NeverBoth}
 use Rattle.answer.specs.Types.{Attention, AttentionReleased, Verdict, Complete, Cut, Broken}
 use Rattle.transfer.proofs.Demand3.{standard-demand3, command-demand3}
 
@@ -56,13 +58,38 @@ s1-complete = record { verdict = refl; bytes = refl }
 pub s1-explained : S1Explained
 s1-explained = standard-demand3 (ticks s1) .exactly (0x41 ∷ []) .0 s1-complete
 
--- Two pairs for one recording.
-bit-keeps : (b : Bool) → BitRule standardLimits (oneTick b)
-bit-keeps b = record { set-up = omega arith; valid-least = omega arith; valid-most = omega arith; steady = refl }
+-- The byte 0x80 keeps the rules, at document 01's times for bits and handover.
+module _ (L : Limits) (set-up : L .«set_up_most» ≡ 200) (valid-least : L .«valid_least» ≡ 20) (valid-most : L .«valid_most» ≡ 200)
+    (keep : L .«keep_most» ≡ 100) (latest : L .«take_latest» ≡ 1000) (between : L .«between_bytes» ≡ 100) where
+  bit-keeps : (b : Bool) → BitRule L (oneTick b)
+  bit-keeps b = record { set-up = omega arith; valid-least = omega arith; valid-most = omega arith; steady = refl }
 
+  frame80-keeps : (let-go take release : ℕ) → let-go ≤ 100 → 1 ≤ take → take ≤ 60 → take + 100 ≤ release
+      → FrameRules L (frame80 let-go take release)
+  frame80-keeps let-go take release a b c d =
+      let o = bit-keeps false in
+      record {
+        bits = record { eight = refl; each = (o, (o, (o, (o, (o, (o, (o, (bit-keeps true, tt)))))))) };
+        handover = record { keeps = omega arith; zero-keeps-not = no-zero; take-least = b; take-most = omega arith };
+        release = record { after-take = omega arith };
+      }
+    where
+      no-zero : Path Bool true false → let-go ≡ 0
+      no-zero e = let z : _≡_ {A = ℕ} 0 1 = cc in absurd (omega arith)
+
+explains80 : (L : Limits) (q p : Plan) → PlanRules L p → 0x80 ∷ [] ≡ values (planBytes p)
+    → gives (attentionTrack (L .entry) p) (senderTrack p) (receiverTrack p)
+    ≡ gives (attentionTrack (L .entry) q) (senderTrack q) (receiverTrack q)
+    → Explains80 L q p
+explains80 L q p rules string e =
+    record {
+      pair = record { plan = p; rules = rules; sends = refl; receives = refl; string-is = string; dated-so = refl };
+      gives-it = e;
+    }
+
+-- Two pairs for one recording.
 byte80-keeps : (let-go take : ℕ) → let-go ≤ 100 → 1 ≤ take → take ≤ 60 → PlanRules standardLimits (byte80 let-go take)
 byte80-keeps let-go take a b c =
-    let o = bit-keeps false in
     record {
       first-take = search needs;
       first-release = search needs;
@@ -71,38 +98,17 @@ byte80-keeps let-go take a b c =
           record {
             entry = refl;
             end-mark = search needs;
-            frame =
-                record {
-                  bits = record { eight = refl; each = (o, (o, (o, (o, (o, (o, (o, (bit-keeps true, tt)))))))) };
-                  handover = record { keeps = a; zero-keeps-not = no-zero; take-least = b; take-most = omega arith };
-                  release = search needs;
-                };
+            frame = frame80-keeps standardLimits refl refl refl refl refl refl let-go take 160 a b c (omega arith);
             let-go = search needs;
             silent = search needs;
           };
-    }
-  where
-    no-zero : Path Bool true false → let-go ≡ 0
-    no-zero e = let z : _≡_ {A = ℕ} 0 1 = cc in absurd (omega arith)
-
-byte80-explains : (let-go take : ℕ) (w : List Lines) → PlanRules standardLimits (byte80 let-go take)
-    → gives (attentionTrack Plain (byte80 let-go take)) (senderTrack (byte80 let-go take)) (receiverTrack (byte80 let-go take)) ≡ w
-    → Explains standardLimits w (0x80 ∷ []) (senderTrack (byte80 let-go take)) (receiverTrack (byte80 let-go take))
-    (planBytes (byte80 let-go take))
-byte80-explains let-go take w rules e =
-    record {
-      pair =
-          record { plan = byte80 let-go take; rules = rules; sends = refl; receives = refl; string-is = refl; dated-so = refl };
-      gives-it = e;
     }
 
 pub two-pairs : TwoPairs
 two-pairs =
     record {
-      early = byte80 1 1;
-      late = byte80 60 50;
-      early-explains = byte80-explains 1 1 _ (byte80-keeps 1 1 (omega arith) (omega arith) (omega arith)) refl;
-      late-explains = byte80-explains 60 50 _ (byte80-keeps 60 50 (omega arith) (omega arith) (omega arith)) refl;
+      early = explains80 standardLimits (byte80 1 1) _ (byte80-keeps 1 1 (omega arith) (omega arith) (omega arith)) refl refl;
+      late = explains80 standardLimits (byte80 1 1) _ (byte80-keeps 60 50 (omega arith) (omega arith) (omega arith)) refl refl;
       early-bytes = refl;
       late-bytes = refl;
     }
@@ -118,7 +124,6 @@ listen-explained = command-demand3 (ticks (listen 200 ++ (1 ∶ 6 ∷ 9 ∶ 4 �
 -- Both tracks are free after the finish.
 command80-keeps : (after : Free) → PlanRules commandLimits (command80 after)
 command80-keeps after =
-    let o = bit-keeps false in
     record {
       first-take = search needs;
       first-release = search needs;
@@ -128,39 +133,16 @@ command80-keeps after =
             entry = refl;
             plain = search needs;
             frame =
-                record {
-                  bits = record { eight = refl; each = (o, (o, (o, (o, (o, (o, (o, (bit-keeps true, tt)))))))) };
-                  handover = record { keeps = omega arith; zero-keeps-not = no-zero; take-least = omega arith; take-most = omega arith };
-                  release = search needs;
-                };
+                frame80-keeps commandLimits refl refl refl refl refl refl 1 1 101 (omega arith) (omega arith) (omega arith) (omega arith);
           };
     }
-  where
-    bit-keeps : (b : Bool) → BitRule commandLimits (oneTick b)
-    bit-keeps b = record { set-up = omega arith; valid-least = omega arith; valid-most = omega arith; steady = refl }
-
-    no-zero : Path Bool true false → _≡_ {A = ℕ} 1 0
-    no-zero e = let z : _≡_ {A = ℕ} 0 1 = cc in absurd (omega arith)
 
 pub free-after-finish : FreeAfterFinish
-free-after-finish = record { receiver-pulls = explains _ refl; sender-pulls = explains _ refl }
-  where
-    explains : (after : Free) {w : List Lines}
-        → gives (attentionTrack Command (command80 after)) (senderTrack (command80 after)) (receiverTrack (command80 after)) ≡ w
-        → Explains commandLimits w (0x80 ∷ []) (senderTrack (command80 after)) (receiverTrack (command80 after)) (planBytes (command80 after))
-    explains after e =
-        record {
-          pair =
-              record {
-                plan = command80 after;
-                rules = command80-keeps after;
-                sends = refl;
-                receives = refl;
-                string-is = refl;
-                dated-so = refl;
-              };
-          gives-it = e;
-        }
+free-after-finish =
+    record {
+      receiver-pulls = explains80 commandLimits (command80 receiverAfter) _ (command80-keeps receiverAfter) refl refl;
+      sender-pulls = explains80 commandLimits (command80 receiverAfter) _ (command80-keeps senderAfter) refl refl;
+    }
 
 -- Tick 0 has ATN pulled or released, and one of the entries stops there.
 stops-at-once : (L : Limits) (entry : Entry) (a c d : Bool) (w : List Lines) → L .entry ≡ entry

@@ -9,20 +9,22 @@ use Rattle.transfer.specs.{Moves.stage, Moves.isDecided, Moves.finishing
 use Rattle.transfer.specs.{Demand3.Consistent}
 use Rattle.transfer.specs.Phases.{below, upTo, Move, Go, Hand, next, same, withBit, handover, afterBit}
 use Rattle.transfer.specs.Outcome.{Outcome, ended, give, onward, run}
-use Rattle.transfer.specs.Parties.{Pulls, pulls, past, underWay, nobody, held, clock, clockHeld, sets, offers, Bit, Frame, Free}
+use Rattle.transfer.specs.Parties.{Pulls, pulls, past, nobody, held, clock, clockHeld, sets, offers, Bit, Frame, Free}
 use Rattle.transfer.specs.Parties.{Sending, more, last, lastCommand, Plan, finishTick, freeTick}
 use Rattle.transfer.specs.Parties.{bitsTrack, frameTrack, sendingTrack, track, bitsTicks, byteOf, afterFrame, sendingBytes, planBytes}
 use Rattle.transfer.specs.Rules.{lastOf, FirstTakeRule, FirstReleaseRule, LetGoRule, EndMarkRule, BitRule, BitRules, FrameRules}
 use Rattle.transfer.specs.Rules.{SendingRules, PlanRules}
-use Rattle.transfer.specs.Types.{Command, Limits, Lines, Byte, Phase, Start, FirstHold, Hold, ReadyToSend, ReadyForData, Acknowledgement}
+use Rattle.transfer.specs.Types.{Command, Limits, Lines, Byte, Phase, Start, FirstHold, Hold, ReadyToSend, ReadyForData}
+use Rattle.transfer.specs.Types.{Acknowledgement}
 use Rattle.transfer.specs.Types.{Acknowledged, SetUp, Valid, Open, Carried, End, Finished}
 use Rattle.answer.specs.Types.{Complete}
-use Rattle.transfer.proofs.{Rows.lines, Stages.under-way-move, Stages.released-move, ByteValue.takenIn, ByteValue.lastBit, ByteValue.eight-bits}
+use Rattle.transfer.proofs.{Rows.lines, Rows.goingOn, Stages.under-way-move, Stages.released-move, ByteValue.takenIn}
+use Rattle.transfer.proofs.{ByteValue.lastBit, ByteValue.eight-bits}
 use Rattle.transfer.proofs.HandoverTicks.{isPositive, less, handoverTicks, frameTicks, frame-ticks}
 
 -- What the bus shows of one tick of both tracks.
 abbrev pub shows : Limits → Pulls → Lines
-shows L (pulls c s r) = lines (underWay (L .entry)) c (r || s)
+shows L (pulls c s r) = goingOn L c (r || s)
 shows L (past c s r) = lines false c (r || s)
 
 -- A row's test that holds, and one that fails.
@@ -68,12 +70,12 @@ then-hands e h =
 module _ (L : Limits) where
   -- One tick.
   one-tick : (now : ℕ) (p : Phase) (x : Move) (c d : Bool) (w : List Lines) → next L now p c d ≡ x
-      → run L now p (lines (underWay (L .entry)) c d ∷ w) ≡ onward x now (λ (q : Phase). run L (suc now) q w)
+      → run L now p (goingOn L c d ∷ w) ≡ onward x now (λ (q : Phase). run L (suc now) q w)
   unfolding run
   one-tick now p x c d w e = ap (λ (y : Move). onward y now (λ (q : Phase). run L (suc now) q w)) (under-way-move L now p c d ∙ e)
 
   step : (now : ℕ) (p q : Phase) (c d : Bool) (w : List Lines) → next L now p c d ≡ Go q
-      → run L now p (lines (underWay (L .entry)) c d ∷ w) ≡ run L (suc now) q w
+      → run L now p (goingOn L c d ∷ w) ≡ run L (suc now) q w
   step now p q c d w e = one-tick now p (Go q) c d w e
 
   at-tick : (p : Phase) (w : List Lines) {a b : ℕ} → a ≡ b → run L a p w ≡ run L b p w
@@ -147,7 +149,8 @@ module _ (L : Limits) where
   -- The sender releases CLK, which hands the byte over, and the receiver lets go k ticks later.
   releases : (p : Phase) (end-mark : Bool) (k at : ℕ) (js : List Pulls) → 1 ≤ k
       → next L at p false true ≡ Hand (heldByte p) (ReadyToSend true end-mark)
-      → run L at p (map (shows L) (replicate k held ++ js)) ≡ give (heldByte p) (run L (at + k) (ReadyToSend true end-mark) (map (shows L) js))
+      → run L at p (map (shows L) (replicate k held ++ js))
+      ≡ give (heldByte p) (run L (at + k) (ReadyToSend true end-mark) (map (shows L) js))
   unfolding next
   releases p end-mark zero at js one e = absurd (omega arith)
   releases p end-mark (suc k) at js one e =
@@ -204,7 +207,8 @@ module _ (L : Limits) where
       (in-time : take ≤ since + L .«take_latest») (held-on : take < at) (late : take + L .«between_bytes» ≤ at) where
     -- The receiver holds DATA for n more ticks.
     along-hold : (l n now : ℕ) → now + n ≡ at
-        → run L now (Hold end-mark value take l) (map (shows L) (handoverTicks n 0 0 ++ js)) ≡ give (heldByte (Hold end-mark value take l)) r
+        → run L now (Hold end-mark value take l) (map (shows L) (handoverTicks n 0 0 ++ js))
+        ≡ give (heldByte (Hold end-mark value take l)) r
     unfolding next
     along-hold l zero now e = at-tick _ _ (omega arith) ∙ after .from-hold value take l late
     along-hold l (suc n) now e =
@@ -212,7 +216,8 @@ module _ (L : Limits) where
 
     -- Open, with the take t ticks ahead.
     along-open : (l t n now : ℕ) → now + t ≡ take → now + n ≡ at
-        → run L now (Open end-mark value since l) (map (shows L) (handoverTicks n 0 t ++ js)) ≡ give (heldByte (Hold end-mark value take l)) r
+        → run L now (Open end-mark value since l) (map (shows L) (handoverTicks n 0 t ++ js))
+        ≡ give (heldByte (Hold end-mark value take l)) r
     unfolding next
     along-open l t zero now d e = absurd (omega arith)
     along-open l zero (suc n) now d e =

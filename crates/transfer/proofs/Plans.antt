@@ -4,12 +4,14 @@ use native.Mathlib.Omega.{arith}
 use mathlib.Core.Logic.{inl, inr}
 use mathlib.Core.Path.{refl, sym, ap, ap₂, _∙_, subst, subst⁻¹, subst₂}
 use Rattle.transfer.specs.{Types.Command, Types.Limits, Types.Byte, Phases.withBit, Demand3.Consistent}
-use Rattle.transfer.specs.Parties.{Pulls, nobody, held, clock, clockHeld, sets, offers, Bit, Frame, more, last, lastCommand, finishTick}
+use Rattle.transfer.specs.Parties.{Pulls, nobody, held, clock, clockHeld, sets, offers, Bit, Frame, more, last, lastCommand}
+use Rattle.transfer.specs.Parties.{finishTick}
 use Rattle.transfer.specs.Parties.{bitsTrack, frameTrack, bitsTicks, byteOf, afterFrame, sendingBytes}
 use Rattle.transfer.specs.Rules.{lastOf, ReleaseRule, PlainRule, EndMarkRule, BitRules, HandoverRule, FrameRules}
 use Rattle.transfer.proofs.{HandoverTicks.handoverTicks, HandoverTicks.frame-ticks, ByteValue.takenIn, ByteValue.lastBit}
 use Rattle.transfer.proofs.{ByteValue.eight-bits, Stages.plain-or-command}
-use Rattle.transfer.proofs.Shapes.{clockKept, Stays, First, Many, many, joined, Sends, AfterHold, releases, finishes, HandsOver, Carries}
+use Rattle.transfer.proofs.Shapes.{clockKept, Stays, First, Many, many, joined, Sends, AfterHold, releases, finishes, HandsOver}
+use Rattle.transfer.proofs.Shapes.{Carries}
 use Rattle.transfer.proofs.Shapes.{Handover, opens, carries, Bits, AfterD}
 
 -- l ticks with the sender on DATA, t with nobody on it, k with the receiver.

@@ -9,8 +9,9 @@ use mathlib.Core.Path.{refl, ap}
 use borrow.Author.Tests.{ltb-false, leb-false}
 use Rattle.transfer.specs.Phases.{below, upTo, Move, Go, Hand, Stop, next, same, handover, afterBit}
 use Rattle.transfer.specs.Moves.{Stage, Running, Holding, Ended, Past, Fallen, stage, finishing, released, heed, unlessFallen, move}
-use Rattle.transfer.specs.Moves.{heldByte}
-use Rattle.transfer.specs.Types.{Entry, Plain, Command, Limits, Lines, Byte, Phase, Start, FirstHold, Hold, ReadyToSend, ReadyForData, Acknowledgement}
+use Rattle.transfer.specs.{Moves.heldByte, Parties.underWay}
+use Rattle.transfer.specs.Types.{Entry, Plain, Command, Limits, Lines, Byte, Phase, Start, FirstHold, Hold, ReadyToSend}
+use Rattle.transfer.specs.Types.{ReadyForData, Acknowledgement}
 use Rattle.transfer.specs.Types.{Acknowledged, SetUp, Valid, Open, Carried, End, Finished, Decided}
 use Rattle.answer.specs.Types.{Fault, Attention}
 
@@ -62,6 +63,10 @@ settled entry l p = heed entry (l .atn) false (rests p (l .clk) (l .«data»)) (
 
 abbrev pub lines : (atn clk dat : Bool) → Lines
 lines a c d = record { atn = a; clk = c; «data» = d }
+
+-- With ATN as it is while a transfer goes on.
+abbrev pub goingOn : Limits → (clk dat : Bool) → Lines
+goingOn L c d = lines (underWay (L .entry)) c d
 
 -- DATA that stays is the same.
 pub stays-same : (d : Bool) → same d d ≡ true

@@ -6,7 +6,8 @@ use mathlib.Core.Bool.{true≢false}
 use mathlib.Core.Path.{refl, ap, _∙_, subst, subst⁻¹}
 use borrow.Author.Tests.{lt-ltb, le-ltb}
 use Rattle.transfer.specs.{Types.Limits, Types.Byte, Rules.FrameRules, Rules.SendingRules, Rules.PlanRules, Demand3.Consistent}
-use Rattle.transfer.specs.Parties.{Pulls, pulls, past, nobody, held, clock, clockHeld, sets, offers, Bit, Frame, Free, Sending, more, last}
+use Rattle.transfer.specs.Parties.{Pulls, pulls, past, nobody, held, clock, clockHeld, sets, offers, Bit, Frame, Free, Sending}
+use Rattle.transfer.specs.Parties.{more, last}
 use Rattle.transfer.specs.Parties.{lastCommand, Plan, finishTick, freeTick}
 use Rattle.transfer.specs.Parties.{bitsTrack, frameTrack, sendingTrack, track, bitsTicks, byteOf, afterFrame, sendingBytes, planBytes}
 use Rattle.transfer.specs.Shown.{Turn, holding, waiting, sending, pullsIn, shownFrom, shown}
@@ -138,7 +139,11 @@ shows-free : {L : Limits} (c : Bool) (now : ℕ) (after : List Free) → KeepsOf
 unfolding shownFrom
 shows-free c now [] off = record { is = refl }
 shows-free {L = L} c now (x ∷ after) off =
-    record { is = one c (x .clk) (x .sender) (x .receiver) (off .0) ∙ ap (λ y. bare (freeTick x) ∷ y) (shows-free (x .clk) (suc now) after (off .1) .is) }
+    record {
+      is =
+          one c (x .clk) (x .sender) (x .receiver) (off .0)
+          ∙ ap (λ y. bare (freeTick x) ∷ y) (shows-free (x .clk) (suc now) after (off .1) .is);
+    }
   where
     one : (b c s r : Bool) → s ≡ false
         → shownFrom now (spent b) (lines false c (r || s) ∷ map (shows L) (map freeTick after))

@@ -4,11 +4,12 @@ use mathlib.Core.Bool.{false≢true}
 use mathlib.Core.Path.{refl, sym, ap, _∙_, subst, subst⁻¹}
 use Rattle.answer.specs.Types.{Fault, Attention}
 use Rattle.transfer.specs.Phases.{Move, Stop, next}
-use Rattle.transfer.specs.Moves.{Stage, Running, Holding, Ended, Past, Fallen, stage, hasFallen, isDecided, released, heed, unlessFallen}
+use Rattle.transfer.specs.Moves.{Stage, Running, Holding, Ended, Past, Fallen, stage, hasFallen, isDecided, released, heed}
+use Rattle.transfer.specs.Moves.{unlessFallen}
 use Rattle.transfer.specs.{Moves.move, Parties.underWay}
 use Rattle.transfer.specs.Types.{Entry, Plain, Command, Limits, Lines, Byte, Phase, Start, FirstHold, Hold, ReadyToSend, ReadyForData}
 use Rattle.transfer.specs.Types.{Acknowledgement, Acknowledged, SetUp, Valid, Open, Carried, End, Finished, Decided}
-use Rattle.transfer.proofs.Rows.{settled, lines}
+use Rattle.transfer.proofs.Rows.{settled, lines, goingOn}
 
 -- The one list of all phases that says which is E, which follows the finish of commands and which is a verdict.
 pub data Told (p : Phase) : Type 0 where
@@ -77,7 +78,7 @@ undecided-move L now p l = by-stage (stage p) _
     by-stage (Fallen fault) does u = absurd (false≢true (sym u))
 
 -- A tick with ATN as it is while the transfer goes on does what the rows say.
-pub under-way-move : (L : Limits) (now : ℕ) (p : Phase) (c d : Bool) → move L now p (lines (underWay (L .entry)) c d) ≡ next L now p c d
+pub under-way-move : (L : Limits) (now : ℕ) (p : Phase) (c d : Bool) → move L now p (goingOn L c d) ≡ next L now p c d
 unfolding move next
 under-way-move L now p c d = by-stage (told p)
   where
@@ -85,16 +86,16 @@ under-way-move L now p c d = by-stage (told p)
     heeded Plain x y z = refl
     heeded Command x y z = refl
 
-    rows : isDecided p ≡ false → move L now p (lines (underWay (L .entry)) c d) ≡ next L now p c d
-    rows u = undecided-move L now p (lines (underWay (L .entry)) c d) u ∙ heeded (L .entry) _ _ _
+    rows : isDecided p ≡ false → move L now p (goingOn L c d) ≡ next L now p c d
+    rows u = undecided-move L now p (goingOn L c d) u ∙ heeded (L .entry) _ _ _
 
-    by-stage : Told p → move L now p (lines (underWay (L .entry)) c d) ≡ next L now p c d
+    by-stage : Told p → move L now p (goingOn L c d) ≡ next L now p c d
     by-stage (is-running r) = rows (ap hasFallen r)
     by-stage (is-holding byte r) = rows (ap hasFallen r)
     by-stage (is-end finish r) = rows (ap isDecided r)
     by-stage (is-past finish r) = rows (ap isDecided r)
     by-stage (is-decided fault r) =
-        subst⁻¹ (λ (q : Phase). move L now q (lines (underWay (L .entry)) c d) ≡ next L now q c d) r refl
+        subst⁻¹ (λ (q : Phase). move L now q (goingOn L c d) ≡ next L now q c d) r refl
 
 -- A tick of commands with ATN released.
 pub released-move : (L : Limits) (now : ℕ) (p : Phase) (c d : Bool) → L .entry ≡ Command → isDecided p ≡ false

@@ -3,7 +3,7 @@ use Rattle.answer.specs.Basics.{ℕ, suc, _≤_, _<_, Bool, true, false, List, 
 use Rattle.transfer.specs.Types.{Plain, Command, Limits, Lines, Byte}
 use Rattle.transfer.specs.{Limits.standardLimits, Limits.commandLimits, Outcome.outcome, Demand3.Explains, Demand3.Explained}
 use Rattle.transfer.specs.Spans.{_∶_, ticks, s1, listen}
-use Rattle.transfer.specs.Parties.{Bit, Free, last, lastCommand, Plan, planBytes}
+use Rattle.transfer.specs.Parties.{Bit, Frame, Free, Sending, last, lastCommand, Plan, planBytes}
 use Rattle.transfer.specs.Pair.{SenderPulls, Pair, senderTrack, receiverTrack, attentionTrack, gives}
 use Rattle.answer.specs.Types.{Complete}
 
@@ -25,61 +25,52 @@ PairSendsBytes =
 abbrev pub S1Explained : Type 0
 S1Explained = Explained standardLimits (ticks s1) (0x41 ∷ [])
 
--- One recording may have several pairs. The byte 0x80, DATA pulled without a break for 160 ticks after bit 8: the sender lets go and
--- the receiver takes at offset 1, or the receiver takes at offset 50 while the sender keeps DATA until offset 60.
+-- The byte 0x80, each set-up one tick and each valid time 20, as the first and last one of a plan.
 abbrev pub oneTick : Bool → Bit
 oneTick b = record { first = b; others = []; bit = b; valid = 20 }
 
-abbrev pub byte80 : (let-go take : ℕ) → Plan
-byte80 let-go take =
+abbrev pub frame80 : (let-go take release : ℕ) → Frame
+frame80 let-go take release =
     let o = oneTick false in
-    let bits = o ∷ o ∷ o ∷ o ∷ o ∷ o ∷ o ∷ oneTick true ∷ [] in
-    record {
-      found = 0;
-      hold = 1;
-      wait = 1;
-      sending = last 200 60 1 (record { bits = bits; let-go = let-go; take = take; release = 160 }) 1 1;
-    }
+    record { bits = o ∷ o ∷ o ∷ o ∷ o ∷ o ∷ o ∷ oneTick true ∷ []; let-go = let-go; take = take; release = release }
+
+abbrev pub plan80 : Sending → Plan
+plan80 sending = record { found = 0; hold = 1; wait = 1; sending = sending }
+
+-- The pair of the plan p explains, with the byte 0x80, what the pair of the plan q gives.
+abbrev pub Explains80 : Limits → (q p : Plan) → Type 0
+Explains80 L q p =
+    Explains L (gives (attentionTrack (L .entry) q) (senderTrack q) (receiverTrack q)) (0x80 ∷ []) (senderTrack p) (receiverTrack p)
+    (planBytes p)
+
+-- One recording may have several pairs. DATA pulled without a break for 160 ticks after bit 8: the sender lets go and the receiver takes at
+-- offset 1, or the receiver takes at offset 50 while the sender keeps DATA until offset 60.
+abbrev pub byte80 : (let-go take : ℕ) → Plan
+byte80 let-go take = plan80 (last 200 60 1 (frame80 let-go take 160) 1 1)
 
 pub record TwoPairs : Type 0 where
-  pub early : Plan
-  pub late : Plan
-  pub early-explains :
-      Explains standardLimits (gives (attentionTrack Plain early) (senderTrack early) (receiverTrack early)) (0x80 ∷ [])
-      (senderTrack early) (receiverTrack early) (planBytes early)
-  pub late-explains :
-      Explains standardLimits (gives (attentionTrack Plain early) (senderTrack early) (receiverTrack early)) (0x80 ∷ [])
-      (senderTrack late) (receiverTrack late) (planBytes late)
-  pub early-bytes : planBytes early ≡ record { value = 0x80; «let_go» = 432; take = 432 } ∷ []
-  pub late-bytes : planBytes late ≡ record { value = 0x80; «let_go» = 491; take = 481 } ∷ []
+  pub early : Explains80 standardLimits (byte80 1 1) (byte80 1 1)
+  pub late : Explains80 standardLimits (byte80 1 1) (byte80 60 50)
+  pub early-bytes : planBytes (byte80 1 1) ≡ record { value = 0x80; «let_go» = 432; take = 432 } ∷ []
+  pub late-bytes : planBytes (byte80 60 50) ≡ record { value = 0x80; «let_go» = 491; take = 481 } ∷ []
 
 -- A command recording has a pair.
 abbrev pub ListenExplained : Type 0
 ListenExplained = Explained commandLimits (ticks (listen 200 ++ (1 ∶ 6 ∷ 9 ∶ 4 ∷ []))) (0x28 ∷ 0x6F ∷ [])
 
--- "What CLK and DATA show after [the finish] binds nobody": the byte 0x80, and one tick after its finish, in which DATA is the receiver's or
--- the sender's. Both pairs give the same recording.
+-- "What CLK and DATA show after [the finish] binds nobody": DATA in the tick after it may be the receiver's or the sender's.
 abbrev pub command80 : Free → Plan
-command80 after =
-    let o = oneTick false in
-    let bits = o ∷ o ∷ o ∷ o ∷ o ∷ o ∷ o ∷ oneTick true ∷ [] in
-    record {
-      found = 0;
-      hold = 1;
-      wait = 1;
-      sending = lastCommand 1 (record { bits = bits; let-go = 1; take = 1; release = 101 }) (after ∷ []);
-    }
+command80 after = plan80 (lastCommand 1 (frame80 1 1 101) (after ∷ []))
 
-abbrev pub Command80 : Free → Type 0
-Command80 after =
-    let p = command80 after in
-    let q = command80 (record { clk = true; sender = false; receiver = true }) in
-    Explains commandLimits (gives (attentionTrack Command q) (senderTrack q) (receiverTrack q)) (0x80 ∷ []) (senderTrack p)
-    (receiverTrack p) (planBytes p)
+abbrev pub receiverAfter : Free
+receiverAfter = record { clk = true; sender = false; receiver = true }
+
+abbrev pub senderAfter : Free
+senderAfter = record { clk = true; sender = true; receiver = false }
 
 pub record FreeAfterFinish : Type 0 where
-  pub receiver-pulls : Command80 (record { clk = true; sender = false; receiver = true })
-  pub sender-pulls : Command80 (record { clk = true; sender = true; receiver = false })
+  pub receiver-pulls : Explains80 commandLimits (command80 receiverAfter) (command80 receiverAfter)
+  pub sender-pulls : Explains80 commandLimits (command80 receiverAfter) (command80 senderAfter)
 
 -- ATN in a tick list that a pair gives: "released throughout"; for commands "pulled until the finish and released from it on", and "the
 -- finish is in the recording".

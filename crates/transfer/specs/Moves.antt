@@ -1,7 +1,8 @@
 -- What a tick does, and what the recording comes to where it runs out.
 use Rattle.answer.specs.Basics.{ℕ, _+_, Bool, true, false, if_then_else_}
 use Rattle.transfer.specs.Phases.{below, Move, Go, Hand, Stop, next}
-use Rattle.transfer.specs.Types.{Entry, Plain, Command, Limits, Lines, Byte, Phase, Start, FirstHold, Hold, ReadyToSend, ReadyForData, Acknowledgement}
+use Rattle.transfer.specs.Types.{Entry, Plain, Command, Limits, Lines, Byte, Phase, Start, FirstHold, Hold, ReadyToSend}
+use Rattle.transfer.specs.Types.{ReadyForData, Acknowledgement}
 use Rattle.transfer.specs.Types.{Acknowledged, SetUp, Valid, Open, Carried, End, Finished, Decided, Decision}
 use Rattle.answer.specs.Types.{Fault, Attention, AttentionReleased, Complete, Cut, Broken}
 
@@ -50,7 +51,8 @@ finishing false now byte false d = Stop AttentionReleased
 finishing true now byte c d = Stop AttentionReleased
 
 -- A tick of commands with ATN released. "In B or in a carried handover, 100 or more ticks after the last take": in a carried handover the
--- take is at offset 1. "In B before any byte" it is 39, as elsewhere; "after the finish only a pull of ATN matters".
+-- take is at offset 1. "In B before any byte" it is 39, as elsewhere; "after the finish only a pull of ATN matters". Commands never come to
+-- E, and a verdict stands before this is asked: those two clauses meet no tick.
 abbrev pub released : Limits → (now : ℕ) → Stage → (clk dat : Bool) → Move
 released L now Running c d = Stop AttentionReleased
 released L now (Holding byte) c d = finishing (below (L .«between_bytes») (byte .take) now) now byte c d

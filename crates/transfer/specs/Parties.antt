@@ -1,4 +1,4 @@
--- "The two parties' own rules" of document 01, and #101's for commands: what a sender and a receiver choose, and the tracks that this makes.
+-- "The two parties' own rules" of document 01, and #101's for commands: what a sender and a receiver choose, and the tracks that it makes.
 -- Nothing here comes from the judge's phases: the two share the times, what a tick shows and the ledger's record alone.
 use Rattle.answer.specs.Basics.{ℕ, zero, suc, _+_, Bool, true, false, List, [], _∷_, _++_, map, length, replicate, ltb, leb, if_then_else_}
 use Rattle.transfer.specs.Types.{Entry, Plain, Command, Byte}

@@ -2,7 +2,8 @@
 -- Lines stand as (CLK, DATA), true when pulled; `now` is the tick. A clause below is a row there; where a row has two
 -- answers by the time, the clause has an `if`. `L` holds the times.
 use Rattle.answer.specs.Basics.{ℕ, zero, suc, _+_, _/_, Bool, true, false, not, eqb, ltb, leb, if_then_else_}
-use Rattle.transfer.specs.Types.{Entry, Plain, Command, Limits, Byte, Phase, Start, FirstHold, Hold, ReadyToSend, ReadyForData, Acknowledgement}
+use Rattle.transfer.specs.Types.{Entry, Plain, Command, Limits, Byte, Phase, Start, FirstHold, Hold, ReadyToSend, ReadyForData}
+use Rattle.transfer.specs.Types.{Acknowledgement}
 use Rattle.transfer.specs.Types.{Acknowledged, SetUp, Valid, Open, Carried, End, Finished, Decided}
 use Rattle.answer.specs.Types.{Fault, EmptyStream, NoReceiver, BadStart, OutOfTurn, EndMarkNotAcknowledged, AcknowledgementShort}
 use Rattle.answer.specs.Types.{AcknowledgementLong, LateClock, SenderTimeout, ValidTimeShort, DataMoved, ClockStall, ReceiverTimeout}

@@ -4,8 +4,10 @@ use Rattle.answer.specs.Basics.{ℕ, List, [], _∷_, _≡_}
 use mathlib.Core.Path.{refl, ap, _∙_}
 use borrow.Author.Needs.{needs}
 use Rattle.recording.specs.{GoodForm.Bytes, Ticks.ticks}
-use Rattle.transfer.specs.{Types.Entry, Types.Limits, Types.Lines, Limits.standardLimits, Moves.move, Moves.brokenAt, Outcome.run, Outcome.outcome}
-use Rattle.transfer.specs.{Parties.planBytes, Pair.senderTrack, Pair.receiverTrack, Pair.attentionTrack, Pair.gives, Demand3.CompleteWith, Demand3.Explained}
+use Rattle.transfer.specs.{Types.Entry, Types.Limits, Types.Lines, Limits.standardLimits, Moves.move, Moves.brokenAt, Outcome.run}
+use Rattle.transfer.specs.{Outcome.outcome}
+use Rattle.transfer.specs.{Parties.planBytes, Pair.senderTrack, Pair.receiverTrack, Pair.attentionTrack, Pair.gives}
+use Rattle.transfer.specs.{Demand3.CompleteWith, Demand3.Explained}
 use Rattle.transfer.specs.Phases.{below, upTo, next, same, withBit, handover, afterBit}
 use Rattle.answer.specs.Types.{EmptyStream}
 use Rattle.transfer.proofs.Demand3.{standard-demand3}

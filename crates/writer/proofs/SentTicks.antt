@@ -6,7 +6,8 @@ use mathlib.Core.List.{append-nil, append-assoc}
 use mathlib.Core.Path.{refl, sym, ap, ap₂, _∙_}
 use Rattle.recording.specs.{Types.Step, Ticks.ticks}
 use Rattle.transfer.specs.{Types.Plain, Limits.standardLimits, Lines.linesOf, Pair.senderPulls, Pair.receiverPulls, Pair.gives}
-use Rattle.transfer.specs.Parties.{Pulls, pulls, past, attention, nobody, held, clock, clockHeld, sets, offers, bitsTrack, frameTrack, track}
+use Rattle.transfer.specs.Parties.{Pulls, pulls, past, attention, nobody, held, clock, clockHeld, sets, offers, bitsTrack, frameTrack}
+use Rattle.transfer.specs.Parties.{track}
 use Rattle.transfer.proofs.{Rows.lines, Forward.shows as onBus, HandoverTicks.frame-ticks, Plans.handover-is}
 use Rattle.writer.specs.WrittenSteps.{shows, bitSteps, byteSteps, sentSteps}
 use Rattle.writer.specs.declared.card.Card.{Card}

@@ -10,4 +10,5 @@ ready-for-data-spec =
     tie.close
     (tie.spec (λ c κs. search needs) (λ c. search tests) (λ c κs. search needs) (λ c. search tests)
     (λ c κs. search needs) (λ c κs. search needs)
-    (λ c. rw (c .before .before .before .if1 .left, c .before .before .if2 .left, ← (c .before .long-silence .ensures)) (c .go-below2 .ensures)))
+    (λ c. rw (c .before .before .before .if1 .left, c .before .before .if2 .left, ← (c .before .long-silence .ensures))
+    (c .go-below2 .ensures)))

@@ -27,7 +27,8 @@ returns-4 : tie.Need-returns-4
 returns-4 c =
     let a = c .before .before .args in
     c .stop .ensures
-    ∙ ap (follow (a .self)) (out-of-place (a .self .phase) (c .before .match .keys4) (a .limits) (a .self .tick) (a .lines .clk) (a .lines .«data»))
+    ∙ ap (follow (a .self))
+    (out-of-place (a .self .phase) (c .before .match .keys4) (a .limits) (a .self .tick) (a .lines .clk) (a .lines .«data»))
 
 pub released-spec : {M : Type 1} → statement M
 released-spec =
