@@ -6,24 +6,8 @@ use mathlib.Core.List.{append-assoc, append-nil}
 use mathlib.Core.Path.{refl, ap, sym, subst, _∙_}
 use lib.{ListN.length-append, ListN.length-replicate, Seq.drop-cons, Seq.set-at}
 use Rattle.answer.specs.{Types.Name, Text.ascii, Text.space}
+use Rattle.answer.proofs.Tables.{counted, agree}
 use Rattle.answer.specs.Names.{Word, _is_, words, wordAmong, wordOf, wordIn, wordAt, inRoom, Spells}
-
--- What a function gives for so many numbers from one on.
-abbrev pub counted : {A : Type 0} (f : ℕ → A) (from count : ℕ) → List A
-counted f from zero = []
-counted f from (suc count) = f from ∷ counted f (suc from) count
-
-getD-counted : {A : Type 0} (f : ℕ → A) (from count place : ℕ) (d : A) → place < count
-    → getD (counted f from count) place d ≡ f (from + place)
-getD-counted f from zero place d h = absurd (omega arith)
-getD-counted f from (suc count) zero d h = ap f (omega arith)
-getD-counted f from (suc count) (suc place) d h = getD-counted f (suc from) count place d (omega arith) ∙ ap f (omega arith)
-
--- Two functions that agree below a bound, by one computation, agree at each number below it.
-agree : {A : Type 0} (f g : ℕ → A) (count n : ℕ) → counted f 0 count ≡ counted g 0 count → n < count → f n ≡ g n
-agree {A} f g count n e h =
-    let at : (k : ℕ → A) → getD (counted k 0 count) n (f 0) ≡ k n = λ k. getD-counted k 0 count n (f 0) h ∙ ap k (omega arith) in
-    sym (at f) ∙ ap (λ (l : List A). getD l n (f 0)) e ∙ at g
 
 -- A row of a table whose rows, so many, are the words of the numbers from 0 on.
 pub row-spells : {name : Name} (rows : List ℕ) (count n : ℕ) → n < count → Spells (wordAt rows (n * 25)) name

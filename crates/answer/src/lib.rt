@@ -7,6 +7,7 @@ mod refusal;
 mod verdict;
 
 pub use crate::names::Name;
+pub use crate::names::name_at;
 pub use crate::names::name_of;
 pub use crate::refusal::Refusal;
 pub use crate::verdict::Fault;

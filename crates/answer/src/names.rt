@@ -11,14 +11,16 @@ pub struct Name {
 // A longer word than today's has room: what crosses to C stays as it is.
 const ROOM: usize = 32;
 
-// A row's length: the longest word has no space after it.
-const WIDTH: usize = 25;
+impl Name {
+    // The length of a table's row: the longest word has no space after it.
+    pub const WIDTH: usize = 25;
+}
 
 // How many numbers have a row, from 0 on: a new number is one more row.
 const ROWS: usize = 40;
 
 // 0 is the writer's answer where it wrote; "Refusals" are next, and "Verdicts" from 20 on.
-const WORDS: [u8; ROWS * WIDTH] = *b"\
+const WORDS: [u8; ROWS * Name::WIDTH] = *b"\
     written                  \
     short-file               \
     wrong-version            \
@@ -60,7 +62,7 @@ const WORDS: [u8; ROWS * WIDTH] = *b"\
     end-mark-under-attention \
     attention-released       ";
 
-const NO_SUCH_NUMBER: [u8; WIDTH] = *b"no-such-number           ";
+const NO_SUCH_NUMBER: [u8; Name::WIDTH] = *b"no-such-number           ";
 
 // The word that the programs print for this number. No number but 20 has a pass's.
 pub fn name_of(number: u32) -> Name
@@ -68,19 +70,19 @@ pub fn name_of(number: u32) -> Name
 {
     let row = number as usize;
     if row < ROWS {
-        return name_at(&WORDS, row * WIDTH);
+        return name_at(&WORDS, row * Name::WIDTH);
     }
     name_at(&NO_SUCH_NUMBER, 0)
 }
 
 // The word of the row that begins at this place: it ends before the row's first space.
-fn name_at(words: &[u8], from: usize) -> Name
+pub fn name_at(words: &[u8], from: usize) -> Name
     requires { ⌜ from + 25 ≤ length (now words) ⌝ }
     ensures { λ r. ⌜ Spells (wordAt (now (words .entry)) from) r ⌝ }
 {
     let mut characters: [u8; ROOM] = [0; ROOM];
     let mut length: usize = 0;
-    while length < WIDTH {
+    while length < Name::WIDTH {
         let character = words[from + length];
         if character == b' ' {
             break;

@@ -1,0 +1,4 @@
+-- Why it holds.
+mod Facts
+mod TableLaw
+mod WordLaws
