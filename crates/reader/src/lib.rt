@@ -2,7 +2,7 @@
 mod attention; // what ATN means, and the finish of commands
 mod beginning; // phases A, B and C
 mod bits; // set-up and valid
-mod end; // phase E, and after the finish of commands
+mod end; // phase E
 mod end_mark; // phases D, F and G
 mod handover;
 mod idle; // ticks that only add one to the tick
