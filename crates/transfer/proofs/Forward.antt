@@ -5,7 +5,8 @@ use native.Mathlib.Omega.{arith}
 use mathlib.Core.List.{append-nil}
 use mathlib.Core.Path.{refl, sym, ap, _∙_, subst, subst⁻¹}
 use borrow.Author.Tests.{lt-ltb, le-ltb, le-leb, lt-leb}
-use Rattle.transfer.specs.{Moves.stage, Moves.isDecided, Moves.finishing, Moves.released, Moves.heldByte, Pair.SameOrLater}
+use Rattle.transfer.specs.{Moves.Stage, Moves.Holding, Moves.stage, Moves.hasFallen, Moves.isDecided, Moves.finishing}
+use Rattle.transfer.specs.{Moves.released, Moves.heldByte, Pair.SameOrLater}
 use Rattle.transfer.specs.{Demand3.Consistent}
 use Rattle.transfer.specs.Phases.{below, upTo, Move, Go, Hand, next, same, withBit, handover, afterBit}
 use Rattle.transfer.specs.Outcome.{Outcome, ended, give, onward, run}
@@ -175,31 +176,32 @@ module _ (L : Limits) where
     released-tick now p x c d w u e =
         ap (λ (y : Move). onward y now (λ (q : Phase). run L (suc now) q w)) (released-move L now p c d command u ∙ e)
 
+    -- The finish, in a phase that holds a byte.
+    finishes-in : (p : Phase) (at : ℕ) (js : List Pulls) → stage p ≡ Holding (heldByte p) → heldByte p .take + L .«between_bytes» ≤ at
+        → run L at p (map (shows L) (finishTick ∷ js)) ≡ give (heldByte p) (run L (suc at) (Finished at) (map (shows L) js))
+    unfolding finishing below
+    finishes-in p at js held late =
+        released-tick at p (Hand (heldByte p) (Finished at)) true true _ (ap hasFallen held)
+        (ap (λ (g : Stage). released L at g true true) held
+        ∙ ap (λ (soon : Bool). finishing soon at (heldByte p) true true) (le-ltb at (heldByte p .take + L .«between_bytes») late))
+
     finishes : (end-mark : Bool) (at : ℕ) (js : List Pulls)
         → Leaves end-mark (finishTick ∷ js) at (run L (suc at) (Finished at) (map (shows L) js))
-    unfolding finishing below
     finishes end-mark at js =
         record {
-          from-hold = λ value t l h.
-              let p = Hold end-mark value t l in
-              released-tick at p (Hand (heldByte p) (Finished at)) true true _ refl
-              (ap (λ (b : Bool). finishing b at (heldByte p) true true) (le-ltb at (t + L .«between_bytes») h));
-          from-carried = λ value s h.
-              let p = Carried end-mark value s in
-              released-tick at p (Hand (heldByte p) (Finished at)) true true _ refl
-              (ap (λ (b : Bool). finishing b at (heldByte p) true true) (le-ltb at (s + 1 + L .«between_bytes») (omega arith)));
+          from-hold = λ value t l h. finishes-in (Hold end-mark value t l) at js refl h;
+          from-carried = λ value s h. finishes-in (Carried end-mark value s) at js refl (omega arith);
         }
 
-    along-free : (finish now : ℕ) (after : List Free)
-        → run L now (Finished finish) (map (shows L) (map freeTick after)) ≡ ended (Finished finish) (now + length after)
+    -- Whatever is shown after it, it stays complete.
+    along-free : (finish now : ℕ) (after : List Free) → CompleteBy (run L now (Finished finish) (map (shows L) (map freeTick after))) []
     unfolding run
-    along-free finish now [] = let z : now ≡ now + 0 = omega arith in ap (λ (t : ℕ). ended (Finished finish) t) z
+    along-free finish now [] = record { verdict = refl; ledger = tt }
     along-free finish now (x ∷ after) =
-        let z : suc now + length after ≡ now + suc (length after) = omega arith in
-        released-tick now (Finished finish) (Go (Finished finish)) (x .clk) (x .receiver || x .sender) (map (shows L) (map freeTick after))
-        refl refl
-        ∙ along-free finish (suc now) after
-        ∙ ap (λ (t : ℕ). ended (Finished finish) t) z
+        subst⁻¹ (λ o. CompleteBy o [])
+        (released-tick now (Finished finish) (Go (Finished finish)) (x .clk) (x .receiver || x .sender) (map (shows L) (map freeTick after))
+        refl refl)
+        (along-free finish (suc now) after)
 
   -- A handover: CLK was pulled at tick `since`, the receiver takes at tick `take`, and from tick `at` on js follows.
   module _ (end-mark : Bool) (value since take at : ℕ) (js : List Pulls) (r : Outcome)
@@ -395,7 +397,7 @@ module _ (L : Limits) where
         (then-hands (along-gap some-handed gap now _ (rules .plain .least) (omega (arith, rules .plain .most, times .end-mark-in-time)))
         (along-frame false (ReadyForData some-handed now) (now + gap) f _ _
         (λ d. is-below _ _ _ _ _ (omega (arith, rules .plain .most))) (rules .frame) (finishes (rules .entry) false _ _)))
-        (subst⁻¹ (λ o. CompleteBy o []) (along-free (rules .entry) _ _ after) (record { verdict = refl; ledger = tt }))
+        (along-free (rules .entry) _ _ after)
 
     -- A plan that keeps the rules is read as complete, with the plan's bytes and each tick the plan's or an earlier one.
     pub along : (p : Plan) → PlanRules L p → CompleteBy (run L 0 Start (map (shows L) (track p))) (planBytes p)
