@@ -1,4 +1,4 @@
-/* The station's judge and writer, for programs in C and C++, in libstation.a, which needs no other library. It is for Linux on x86-64. The
+/* The station's judges and writer, for programs in C and C++, in libstation.a, which needs no other library. It is for Linux on x86-64. The
  * exact rules are in docs/RULES.md, installed as share/doc/station/RULES.md.
  *
  * ONLY THE NUMBER 20 IS A PASS. 0 is not: it is the writer's answer where it wrote. No other number is, small or large, and no count of
@@ -11,7 +11,7 @@
 #include <stdint.h>
 
 /* The version of the whole: header, library, commands and Rust crate. */
-#define STATION_VERSION "0.2.0"
+#define STATION_VERSION "0.3.0"
 
 #ifdef __cplusplus
 extern "C" {
@@ -22,7 +22,7 @@ enum station_number {
     /* the one pass: the transfer was finished, and some sender and receiver that keep the rules could have made the recording */
     STATION_COMPLETE = 20,
 
-    /* verdicts of the judge that are no pass */
+    /* verdicts of the judges that are no pass */
     STATION_EMPTY_STREAM = 21,              /* the sender did not go on within 512 ticks, and no byte was handed over: a time-out */
     STATION_CUT = 22,                       /* the recording ended before the transfer was finished */
     STATION_ATTENTION = 23,                 /* ATN was pulled */
@@ -43,7 +43,7 @@ enum station_number {
     STATION_END_MARK_UNDER_ATTENTION = 38,  /* the sender stayed silent for 200 ticks, an end mark, while ATN was pulled */
     STATION_ATTENTION_RELEASED = 39,        /* ATN was released before the commands were finished */
 
-    /* refusals of the judge: they are about the file or the memory lent, not about a drive */
+    /* refusals of the judges: they are about the file or the memory lent, not about a drive */
     STATION_SHORT_FILE = 1,     /* fewer than 16 bytes */
     STATION_WRONG_VERSION = 2,  /* the version is not 1 */
     STATION_TOO_MANY_STEPS = 3, /* more than 16,000 steps */
@@ -81,7 +81,8 @@ struct station_answer {
     uint32_t count;
 };
 
-/* The stack that a call may need, in bytes. Measured were fewer than 200 for the judge and the writer, and 1,100 for a number's name. */
+/* The stack that a call may need, in bytes. Measured were fewer than 600 for the judges, the writer and a class's name, and 1,400 for a number's
+ * name. */
 #define STATION_STACK 2048
 
 /* All functions:
@@ -90,7 +91,7 @@ struct station_answer {
  * - must be lent as many places as the lengths say. A pointer whose length is 0 is not followed and may be null.
  * - take any bytes and any number at all, and always return. */
 
-/* Judges one data transfer.
+/* Judges one data transfer: ATN is released throughout.
  *
  * Lent by the caller:
  * - recording: recording_length bytes, any. They are only read. A file that is longer than STATION_LONGEST_RECORDING is always refused.
@@ -102,7 +103,7 @@ struct station_answer {
  *
  * Comes back:
  * - A verdict, of which ONLY 20 IS A PASS: the deciding tick, the step that holds it, and as count how many bytes were handed over,
- *   always fewer than STATION_BYTE_ROOM. For 20 the tick is the one at which the stream was finished; for 22 tick and step are the
+ *   always fewer than STATION_BYTE_ROOM. For 20 the tick is the one at which the transfer was finished; for 22 tick and step are the
  *   recording's total ticks and its number of steps. bytes begins with the count bytes; ledger begins with two ticks for each: when the
  *   sender let go of DATA and when the receiver took it. All further places keep what they held.
  * - A refusal of the judge: tick and count are 0; step is the offending one for 6 and 7 and otherwise 0. No place of bytes or ledger changes.
@@ -111,6 +112,31 @@ struct station_answer {
  */
 struct station_answer station_judge(const uint8_t *recording, size_t recording_length, uint8_t *bytes, size_t bytes_length,
                                     uint32_t *ledger, size_t ledger_length);
+
+/* Judges one command transfer: bytes that are sent while ATN is pulled, from the recording's first tick until the commands are finished,
+ * and that say who is to listen or to talk. The finish is the first tick with ATN released.
+ *
+ * What is lent and what comes back is as for station_judge, refusals and their order too, and ONLY 20 IS A PASS. No recording passes both: one of
+ * a data transfer gets STATION_ATTENTION_RELEASED here, and one of a command transfer STATION_ATTENTION there. An end mark has no place among
+ * commands (STATION_END_MARK_UNDER_ATTENTION). station_command_class says what a byte means that was handed over.
+ */
+struct station_answer station_judge_command(const uint8_t *recording, size_t recording_length, uint8_t *bytes, size_t bytes_length,
+                                            uint32_t *ledger, size_t ledger_length);
+
+/* What a command byte means. Every byte has one class; no verdict depends on it. */
+enum station_class {
+    STATION_CLASS_OTHER = 0,     /* all others */
+    STATION_CLASS_LISTEN = 1,    /* 0x20 to 0x3E: the device of this number, 0 to 30, is to listen */
+    STATION_CLASS_UNLISTEN = 2,  /* 0x3F: nobody is to listen any more */
+    STATION_CLASS_TALK = 3,      /* 0x40 to 0x5E: the device of this number, 0 to 30, is to talk */
+    STATION_CLASS_UNTALK = 4,    /* 0x5F: nobody is to talk any more */
+    STATION_CLASS_SECONDARY = 5, /* 0x60 to 0x6F: a channel, 0 to 15, of the device addressed */
+    STATION_CLASS_CLOSE = 6,     /* 0xE0 to 0xEF: close this channel, 0 to 15 */
+    STATION_CLASS_OPEN = 7       /* 0xF0 to 0xFF: open this channel, 0 to 15 */
+};
+
+/* The class of a command byte: one of station_class. */
+uint32_t station_command_class(uint8_t byte);
 
 /* Writes the sample recording of a string of bytes.
  *
@@ -127,7 +153,7 @@ struct station_answer station_judge(const uint8_t *recording, size_t recording_l
  */
 struct station_answer station_write(const uint8_t *bytes, size_t bytes_length, uint8_t *destination, size_t destination_length);
 
-/* The word that the commands print for a number, ended by a zero; all places after it are zero too. */
+/* The word that the commands print for a number or a class, ended by a zero; all places after it are zero too. */
 struct station_word {
     char text[32];
 };
@@ -138,6 +164,9 @@ struct station_word {
  *     printf("%s\n", word.text);
  */
 struct station_word station_name(uint32_t number);
+
+/* The word of a command byte's class: "listen", "unlisten", "talk", "untalk", "secondary", "close", "open" or "other". */
+struct station_word station_command_name(uint8_t byte);
 
 #ifdef __cplusplus
 }

@@ -14,6 +14,16 @@ enum { COUNT = 3, LENGTH = 80 * COUNT + 36, STEPS = 20 * COUNT + 5 };
 static const uint8_t string[COUNT] = {0x41, 0x00, 0xFF};
 static const uint32_t ledger_due[2 * COUNT] = {1350, 1380, 2730, 2760, 4390, 4420};
 
+/* The same of the commands that as_commands makes of them. */
+static const uint32_t command_ledger_due[2 * COUNT] = {1350, 1380, 2730, 2760, 4110, 4140};
+
+/* A judge of the library, and what its ledger is to begin with. */
+struct judge {
+    struct station_answer (*judge)(const uint8_t *, size_t, uint8_t *, size_t, uint32_t *, size_t);
+    const uint32_t *ledger_due;
+};
+static const struct judge of_data = {station_judge, ledger_due}, of_commands = {station_judge_command, command_ledger_due};
+
 static int failed;
 
 static void holds(const char *what, const char *part, int is_so) {
@@ -49,16 +59,17 @@ static void try_layout(void) {
 }
 
 /* Judges a recording with buffers of so many places, and tries the answer and every place of them: what is counted is the string. */
-static void judges(const char *what, const uint8_t *recording, size_t byte_room, size_t ledger_room, struct station_answer due) {
+static void judges(const char *what, struct judge by, const uint8_t *recording, size_t byte_room, size_t ledger_room,
+                   struct station_answer due) {
     size_t ticks_length = 2 * due.count * sizeof(uint32_t);
     for (int filling = 0; filling < FILLINGS; filling++) {
         struct shut file = shut(recording, LENGTH, 0);
         struct lent bytes = lend(byte_room, filling);
         struct lent ledger = lend(ledger_room * sizeof(uint32_t), filling);
         uint32_t *ticks = (uint32_t *)(void *)ledger.places;
-        is_answer(what, due, station_judge(file.bytes, LENGTH, bytes.places, byte_room, ticks, ledger_room));
+        is_answer(what, due, by.judge(file.bytes, LENGTH, bytes.places, byte_room, ticks, ledger_room));
         holds(what, "bytes", memcmp(bytes.places, string, due.count) == 0);
-        holds(what, "ledger", memcmp(ticks, ledger_due, ticks_length) == 0);
+        holds(what, "ledger", memcmp(ticks, by.ledger_due, ticks_length) == 0);
         holds(what, "further bytes are kept", is_kept_from(bytes, due.count));
         holds(what, "further ledger places are kept", is_kept_from(ledger, ticks_length));
         take_back(ledger);
@@ -79,19 +90,58 @@ static void writes(const char *what, const uint8_t *bytes, size_t length, size_t
     }
 }
 
+/* A pass, as it is and with more room, and a place of either buffer too few. */
+static void try_rooms(struct judge by, const uint8_t *recording, struct station_answer pass) {
+    struct station_answer short_buffers = answer(STATION_SHORT_BUFFERS, 0, 0, 0);
+    judges("a pass", by, recording, STATION_BYTE_ROOM, STATION_LEDGER_ROOM, pass);
+    judges("a pass with more room", by, recording, STATION_BYTE_ROOM + 1, STATION_LEDGER_ROOM + 1, pass);
+    judges("a byte place too few", by, recording, STATION_BYTE_ROOM - 1, STATION_LEDGER_ROOM, short_buffers);
+    judges("a ledger place too few", by, recording, STATION_BYTE_ROOM, STATION_LEDGER_ROOM - 1, short_buffers);
+}
+
 static void try_judge(const uint8_t *recording) {
     uint8_t changed[LENGTH];
-    struct station_answer pass = answer(STATION_COMPLETE, 4670, STEPS - 1, COUNT);
-    struct station_answer short_buffers = answer(STATION_SHORT_BUFFERS, 0, 0, 0);
-    judges("a pass", recording, STATION_BYTE_ROOM, STATION_LEDGER_ROOM, pass);
-    judges("a pass with more room", recording, STATION_BYTE_ROOM + 1, STATION_LEDGER_ROOM + 1, pass);
-    judges("a byte place too few", recording, STATION_BYTE_ROOM - 1, STATION_LEDGER_ROOM, short_buffers);
-    judges("a ledger place too few", recording, STATION_BYTE_ROOM, STATION_LEDGER_ROOM - 1, short_buffers);
+    try_rooms(of_data, recording, answer(STATION_COMPLETE, 4670, STEPS - 1, COUNT));
     memcpy(changed, recording, LENGTH);
     changed[LENGTH - 2] = 4;
-    judges("DATA held at the end", changed, STATION_BYTE_ROOM, STATION_LEDGER_ROOM, answer(STATION_CUT, 4770, STEPS, COUNT));
+    judges("DATA held at the end", of_data, changed, STATION_BYTE_ROOM, STATION_LEDGER_ROOM, answer(STATION_CUT, 4770, STEPS, COUNT));
     changed[16 + 4 * 12 + 3] = 1;
-    judges("a stray bit in step 12", changed, STATION_BYTE_ROOM, STATION_LEDGER_ROOM, answer(STATION_STRAY_BITS, 0, 12, 0));
+    judges("a stray bit in step 12", of_data, changed, STATION_BYTE_ROOM, STATION_LEDGER_ROOM, answer(STATION_STRAY_BITS, 0, 12, 0));
+}
+
+/* Makes a command recording of the one that was written of so many bytes: ATN is pulled in all steps but the last two, of which the first
+ * shows (1,1), and the last byte's gap of 220 ticks, the acknowledgement and the 40 ticks after it become a gap of 60. */
+static void as_commands(uint8_t *recording, size_t count) {
+    size_t last_gap = 20 * (count - 1) + 2, finish = 20 * count + 3;
+    for (size_t step = 0; step < finish; step++) {
+        recording[16 + 4 * step + 2] |= 1;
+    }
+    for (size_t step = last_gap; step < last_gap + 3; step++) {
+        recording[16 + 4 * step] = 20;
+        recording[16 + 4 * step + 2] = 1;
+    }
+    recording[16 + 4 * finish + 2] = 6;
+    uint32_t total = 0;
+    for (size_t step = 0; step < finish + 2; step++) {
+        total += recording[16 + 4 * step];
+    }
+    for (size_t place = 0; place < 4; place++) {
+        recording[8 + place] = (uint8_t)(total >> 8 * place);
+    }
+}
+
+static void try_judge_command(const uint8_t *recording) {
+    uint8_t commands[LENGTH];
+    memcpy(commands, recording, LENGTH);
+    as_commands(commands, COUNT);
+    try_rooms(of_commands, commands, answer(STATION_COMPLETE, 4340, STEPS - 2, COUNT));
+    judges("commands as data", of_data, commands, STATION_BYTE_ROOM, STATION_LEDGER_ROOM, answer(STATION_ATTENTION, 0, 0, 0));
+    judges("data as commands", of_commands, recording, STATION_BYTE_ROOM, STATION_LEDGER_ROOM, answer(STATION_ATTENTION_RELEASED, 0, 0, 0));
+    commands[16 + 4 * (STEPS - 3) + 2] = 6;
+    judges("ATN released with the take", of_commands, commands, STATION_BYTE_ROOM, STATION_LEDGER_ROOM,
+           answer(STATION_ATTENTION_RELEASED, 4140, STEPS - 3, COUNT - 1));
+    commands[16 + 4 * 12 + 3] = 1;
+    judges("a stray bit in commands", of_commands, commands, STATION_BYTE_ROOM, STATION_LEDGER_ROOM, answer(STATION_STRAY_BITS, 0, 12, 0));
 }
 
 static void try_writer(void) {
@@ -105,6 +155,7 @@ static void try_writer(void) {
 static void try_null(const uint8_t *recording) {
     uint8_t none[STATION_WRITTEN_LENGTH(0)];
     is_answer("nothing to judge", answer(STATION_SHORT_FILE, 0, 0, 0), station_judge(NULL, 0, NULL, 0, NULL, 0));
+    is_answer("no commands to judge", answer(STATION_SHORT_FILE, 0, 0, 0), station_judge_command(NULL, 0, NULL, 0, NULL, 0));
     is_answer("no buffers", answer(STATION_SHORT_BUFFERS, 0, 0, 0), station_judge(recording, LENGTH, NULL, 0, NULL, 0));
     is_answer("nothing to write", answer(STATION_WRITTEN, 0, 0, sizeof none), station_write(NULL, 0, none, sizeof none));
     is_answer("nowhere to write", answer(STATION_SHORT_DESTINATION, 0, 0, 0), station_write(NULL, 0, NULL, 0));
@@ -137,6 +188,15 @@ static void call_judge(void) {
     kept = station_judge(longest, length, longest_bytes, STATION_BYTE_ROOM, longest_ledger, STATION_LEDGER_ROOM);
 }
 
+static void call_judge_command(void) {
+    size_t length = STATION_WRITTEN_LENGTH(STATION_MOST_BYTES);
+    kept = station_judge_command(longest, length, longest_bytes, STATION_BYTE_ROOM, longest_ledger, STATION_LEDGER_ROOM);
+}
+
+static void call_command_name(void) {
+    kept_word = station_command_name(0x28);
+}
+
 static void call_name(void) {
     kept_word = station_name(STATION_COMPLETE);
 }
@@ -146,6 +206,9 @@ static void try_stack(void) {
     holds("the writer", "stack", stack_of(call_write) < nothing + STATION_STACK && kept.number == STATION_WRITTEN);
     holds("the judge", "stack", stack_of(call_judge) < nothing + STATION_STACK && kept.number == STATION_COMPLETE);
     holds("a name", "stack", stack_of(call_name) < nothing + STATION_STACK && strcmp(kept_word.text, "complete") == 0);
+    holds("a class's name", "stack", stack_of(call_command_name) < nothing + STATION_STACK && strcmp(kept_word.text, "listen") == 0);
+    as_commands(longest, STATION_MOST_BYTES);
+    holds("the judge of commands", "stack", stack_of(call_judge_command) < nothing + STATION_STACK && kept.number == STATION_COMPLETE);
 }
 
 int main(void) {
@@ -153,6 +216,7 @@ int main(void) {
     try_layout();
     is_answer("a string", answer(STATION_WRITTEN, 0, 0, LENGTH), station_write(string, COUNT, recording, LENGTH));
     try_judge(recording);
+    try_judge_command(recording);
     try_writer();
     try_null(recording);
     try_long_file(recording);

@@ -6,7 +6,7 @@ use Rattle.station.proofs.station_judge.Tie as tie
 returns : tie.Need-returns
 returns c =
     let judged = c .before .before .before .before .before in
-    judged-crosses _ _ _ _ _ _ _ (c .cross .ensures) (judged .judge .ensures)
+    judged-crosses _ _ _ _ _ _ _ _ (c .cross .ensures) (judged .judge .ensures)
 
 pub station-judge-spec : {M : Type 1} → statement M
 station-judge-spec =
