@@ -7,6 +7,7 @@ mod source;
 pub use crate::answers::print_answer;
 pub use crate::answers::print_failure;
 pub use crate::answers::print_name;
+pub use crate::answers::print_word;
 pub use crate::input::Input;
 pub use crate::input::read_input;
 pub use crate::paths::hide_controls;

@@ -1,4 +1,4 @@
-// The recording that a program is asked about: the file that its first argument names, or standard input.
+// The recording that a program is asked about: the file that an argument names, or standard input.
 ghost use Rattle.answer.specs.Basics.{_≤_, length, _≡_};
 ghost use Rattle.io.specs.Counts.{Counts};
 use crate::input::read_input;
@@ -12,15 +12,16 @@ pub struct Source {
     pub is_read: bool,
 }
 
-// Puts the source's name, fit to be printed, in `name` and its bytes in `room`, as many as there is room for.
-pub fn read_source(name: &mut [u8], room: &mut [u8]) -> Source
+// Puts the source's name, fit to be printed, in `name` and its bytes in `room`, as many as there is room for. The argument of this place
+// names a file; without it the source is standard input.
+pub fn read_source(place: usize, name: &mut [u8], room: &mut [u8]) -> Source
     ensures { λ r. ⌜ Counts (r .«name_length») (now (name .exit)) × Counts (r .length) (now (room .exit)) ⌝ }
 {
-    if os::arg_count() < 2 {
+    if os::arg_count() <= place {
         let length = name_input(name);
         return read_descriptor(STDIN_FILENO, name, length, room);
     }
-    let given = os::arg(1, name);
+    let given = os::arg(place, name);
     if os::errno() != 0 {
         hide_controls(name);
         return unreadable(name, name.len());

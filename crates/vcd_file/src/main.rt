@@ -15,7 +15,7 @@ use files::read_source;
 fn main() {
     let mut name = io::buffer();
     let mut room = io::large_buffer();
-    let source = read_source(&mut name, &mut room);
+    let source = read_source(1, &mut name, &mut room);
     if source.is_read {
         print_dump(&room[..source.length], &name[..source.name_length]);
     }

@@ -1,6 +1,5 @@
 -- `files::print_name` is safe: the word's length is within its characters. Assumes nothing.
 use borrow.Author.Needs.{needs}
-use Rattle.io.proofs.Counting.{front}
 use Rattle.answer.proofs.NameLaws.{fits}
 use Rattle.files.proofs.answers.print_name.Statement.{statement}
 use Rattle.files.proofs.answers.print_name.Tie as tie
@@ -8,6 +7,4 @@ use Rattle.files.proofs.answers.print_name.Tie as tie
 pub print-name-spec : {M : Type 1} → statement M
 print-name-spec =
     tie.close
-    (tie.spec (λ c κs. search needs) (λ c. fits _ _ (c .before .name-of .ensures))
-    (λ c. front _ _ (fits _ _ (c .before .before .name-of .ensures)))
-    (λ c κs. search needs) (λ c. search needs))
+    (tie.spec (λ c κs. search needs) (λ c κs. fits _ _ (c .name-of .ensures)) (λ c. search needs))
