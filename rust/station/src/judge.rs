@@ -1,9 +1,9 @@
-//! The judge's entry.
+//! The judge's two entries.
 
-use crate::border::{self, StationAnswer};
-use crate::{Fault, JudgeError, Refusal, Transfer, COMPLETE};
+use crate::border::{self, Entry, StationAnswer};
+use crate::{CommandTransfer, Fault, JudgeError, Refusal, Transfer, COMPLETE};
 
-/// Judges one data transfer. `Ok` is a pass, and nothing else is.
+/// Judges one data transfer, in which ATN is released throughout. `Ok` is a pass, and nothing else is.
 ///
 /// `recording` is a whole recording file, and may be any bytes at all; of a long file
 /// [its beginning](crate::LONGEST_RECORDING) is enough. `bytes` must have [`BYTE_ROOM`](crate::BYTE_ROOM) places or more and
@@ -52,7 +52,59 @@ pub fn judge<'lent>(
     bytes: &'lent mut [u8],
     ledger: &'lent mut [u32],
 ) -> Result<Transfer<'lent>, JudgeError> {
-    let crossed = border::judge(recording, bytes, ledger);
+    judge_by(Entry::Data, recording, bytes, ledger)
+}
+
+/// Judges one command transfer: bytes that are sent while ATN is pulled, until the commands are finished, and that say who is
+/// to listen or to talk. `Ok` is a pass, and nothing else is.
+///
+/// What is lent, what is left in it, the errors and the panics are as [`judge`]'s. The pass is a type of its own, and no
+/// recording passes both.
+///
+/// # Errors
+///
+/// For every recording that does not pass, also where bytes were handed over.
+///
+/// # Panics
+///
+/// As [`judge`] does.
+///
+/// # Examples
+///
+/// ```
+/// use station::{judge_command, CommandClass, Fault, JudgeError, BYTE_ROOM, LEDGER_ROOM};
+///
+/// // The computer tells device 8 to listen, on channel 15.
+/// let (mut bytes, mut ledger) = ([0; BYTE_ROOM], [0; LEDGER_ROOM]);
+/// let recording = include_bytes!("../../../samples/commands/drive-addressed.rec");
+/// let commands = judge_command(recording, &mut bytes, &mut ledger)?;
+/// assert_eq!(commands.bytes(), [0x28, 0x6F]);
+/// assert!(commands.classes().eq([CommandClass::Listen, CommandClass::Secondary]));
+/// assert_eq!((commands.finish_tick(), commands.finish_step()), (2960, 41));
+///
+/// // A recording of a data transfer, handed to the wrong entry.
+/// let recording = include_bytes!("../../../samples/s1.rec");
+/// let error = judge_command(recording, &mut bytes, &mut ledger).unwrap_err();
+/// let fault = Fault::AttentionReleased;
+/// assert_eq!(error, JudgeError::Fault { fault, tick: 0, step: 0, count: 0 });
+/// # Ok::<(), JudgeError>(())
+/// ```
+pub fn judge_command<'lent>(
+    recording: &[u8],
+    bytes: &'lent mut [u8],
+    ledger: &'lent mut [u32],
+) -> Result<CommandTransfer<'lent>, JudgeError> {
+    judge_by(Entry::Command, recording, bytes, ledger).map(CommandTransfer)
+}
+
+/// What both entries do.
+fn judge_by<'lent>(
+    entry: Entry,
+    recording: &[u8],
+    bytes: &'lent mut [u8],
+    ledger: &'lent mut [u32],
+) -> Result<Transfer<'lent>, JudgeError> {
+    let crossed = border::judge(entry, recording, bytes, ledger);
     require_pass(crossed)?;
     let count = crossed.count as usize;
     Ok(Transfer {

@@ -30,13 +30,17 @@
 //! # }
 //! ```
 //!
+//! What is sent while ATN is pulled, to tell who is to listen or to talk, is a command transfer, and has an entry of its own,
+//! [`judge_command()`], with a pass of its own, [`CommandTransfer`]; [`CommandClass`] says what each of its bytes means.
+//!
 //! `Judge` and `write_to_vec` own their memory and stand behind the feature `std`, which is on if nothing else is said.
-//! Without it the crate needs `core` alone: [`judge()`] and [`write()`] are lent what they fill, and take no memory.
+//! Without it the crate needs `core` alone: [`judge()`], [`judge_command()`] and [`write()`] are lent what they fill, and take no
+//! memory.
 //!
 //! # What is proved, and what is not
 //!
 //! The library behind this crate is proved before it is linked: the build runs `rt staticlib station` and fails if the
-//! proof does. What is not proved is the crossing: that the two functions are declared here as they were built. It is
+//! proof does. What is not proved is the crossing: that the four functions are declared here as they were built. It is
 //! one small module, the only one with `unsafe` code, and it is tried on a million recordings against another judge
 //! (`cargo run --release -p trials --bin differential`).
 
@@ -48,6 +52,8 @@
 extern crate std;
 
 mod border;
+mod command_class;
+mod command_transfer;
 mod handovers;
 mod judge;
 mod judge_error;
@@ -61,8 +67,10 @@ mod transfer;
 mod unknown_number;
 mod write;
 
+pub use command_class::CommandClass;
+pub use command_transfer::CommandTransfer;
 pub use handovers::{Handover, Handovers};
-pub use judge::judge;
+pub use judge::{judge, judge_command};
 pub use judge_error::JudgeError;
 pub use numbers::{Fault, Refusal, WriteRefusal, COMPLETE, WRITTEN};
 #[cfg(feature = "std")]

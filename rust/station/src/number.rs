@@ -12,7 +12,6 @@ macro_rules! numbers {
         $(#[$about])*
         #[derive(Clone, Copy, Debug, PartialEq, Eq, Hash)]
         #[repr(u32)]
-        #[non_exhaustive]
         pub enum $Number {
             $(
                 #[doc = concat!($number, " `", $name, "`: ", $meaning, ".")]

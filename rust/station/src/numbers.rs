@@ -3,7 +3,8 @@
 use crate::number::numbers;
 use crate::UnknownNumber;
 
-/// The number of the one pass, a finished transfer: [`judge`](crate::judge) then gives a [`Transfer`](crate::Transfer).
+/// The number of the one pass, a finished transfer: [`judge`](crate::judge) then gives a [`Transfer`](crate::Transfer), and
+/// [`judge_command`](crate::judge_command) a [`CommandTransfer`](crate::CommandTransfer).
 pub const COMPLETE: u32 = 20;
 
 /// The number that says that the writer wrote: [`write`](crate::write) then gives a [`Written`](crate::Written). It says
@@ -25,6 +26,7 @@ numbers! {
     /// let error = Fault::try_from(station::COMPLETE).unwrap_err();
     /// assert_eq!(error.to_string(), "no fault has the number 20");
     /// ```
+    #[non_exhaustive]
     "fault" Fault {
         EmptyStream = 21 "empty-stream": "the sender did not go on within 512 ticks, and no byte was handed over: a time-out",
         Cut = 22 "cut": "the recording ended before the transfer was finished",
@@ -48,6 +50,7 @@ numbers! {
     }
 
     /// Why the judge refused a recording, or the memory it was lent. It says nothing of a drive.
+    #[non_exhaustive]
     "refusal of the judge" Refusal {
         ShortFile = 1 "short-file": "fewer than 16 bytes",
         WrongVersion = 2 "wrong-version": "the version is not 1",
@@ -61,6 +64,7 @@ numbers! {
     }
 
     /// Why the writer refused. As an error it reads as its name; [`meaning`](WriteRefusal::meaning) says more.
+    #[non_exhaustive]
     "refusal of the writer" WriteRefusal {
         TooManyBytes = 10 "too-many-bytes": "more than 799 bytes",
         ShortDestination = 11 "short-destination": "too little memory was lent",

@@ -1,6 +1,7 @@
 //! The judge and the writer with memory of their own.
 
-use crate::{judge, write, written_length, Handovers, JudgeError, Transfer, WriteRefusal};
+use crate::{judge, judge_command, write, written_length, Handovers};
+use crate::{CommandTransfer, JudgeError, Transfer, WriteRefusal};
 use crate::{BYTE_ROOM, LEDGER_ROOM, MOST_BYTES};
 use std::vec;
 use std::vec::Vec;
@@ -51,10 +52,37 @@ impl Judge {
     /// As [`judge()`] does.
     pub fn judge(&mut self, recording: &[u8]) -> Result<Transfer<'_>, JudgeError> {
         let judged = judge(recording, &mut self.bytes, &mut self.ledger);
-        self.before_fault = match judged {
-            Err(JudgeError::Fault { count, .. }) => count as usize,
-            Ok(_) | Err(JudgeError::Refusal { .. }) => 0,
-        };
+        self.before_fault = before_fault(&judged);
+        judged
+    }
+
+    /// Judges one command transfer, as [`judge_command()`] does. `Ok` is a pass, and nothing else is.
+    ///
+    /// ```
+    /// use station::{CommandClass, Judge};
+    ///
+    /// let mut judge = Judge::new();
+    /// let commands = judge.judge_command(include_bytes!("../../../samples/commands/drive-addressed.rec"))?;
+    /// assert_eq!(commands.bytes(), [0x28, 0x6F]);
+    ///
+    /// // ATN was released too soon: one byte was handed over before.
+    /// let error = judge.judge_command(include_bytes!("../../../samples/commands/last-hold-99.rec")).unwrap_err();
+    /// assert_eq!(error.name(), "attention-released");
+    /// let before: Vec<CommandClass> = judge.before_fault().map(|handover| CommandClass::of(handover.byte)).collect();
+    /// assert_eq!(before, [CommandClass::Listen]);
+    /// # Ok::<(), station::JudgeError>(())
+    /// ```
+    ///
+    /// # Errors
+    ///
+    /// For every recording that does not pass.
+    ///
+    /// # Panics
+    ///
+    /// As [`judge_command()`] does.
+    pub fn judge_command(&mut self, recording: &[u8]) -> Result<CommandTransfer<'_>, JudgeError> {
+        let judged = judge_command(recording, &mut self.bytes, &mut self.ledger);
+        self.before_fault = before_fault(&judged);
         judged
     }
 
@@ -62,6 +90,14 @@ impl Judge {
     #[must_use]
     pub fn before_fault(&self) -> Handovers<'_> {
         Handovers::of(&self.bytes[..self.before_fault], &self.ledger)
+    }
+}
+
+/// How many bytes were handed over before a fault.
+fn before_fault<Pass>(judged: &Result<Pass, JudgeError>) -> usize {
+    match judged {
+        Err(JudgeError::Fault { count, .. }) => *count as usize,
+        Ok(_) | Err(JudgeError::Refusal { .. }) => 0,
     }
 }
 

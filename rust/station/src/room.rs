@@ -1,10 +1,12 @@
 //! How much memory a caller lends, and how long a recording is.
 
-/// The places that [`judge`](crate::judge) asks of the byte buffer; with fewer it refuses with
+/// The places that [`judge`](crate::judge) and [`judge_command`](crate::judge_command) ask of the byte buffer; with fewer they
+/// refuse with
 /// [`ShortBuffers`](crate::Refusal::ShortBuffers).
 pub const BYTE_ROOM: usize = 1000;
 
-/// The places that [`judge`](crate::judge) asks of the ledger, two for each byte; with fewer it refuses with
+/// The places that [`judge`](crate::judge) and [`judge_command`](crate::judge_command) ask of the ledger, two for each byte;
+/// with fewer they refuse with
 /// [`ShortBuffers`](crate::Refusal::ShortBuffers).
 pub const LEDGER_ROOM: usize = 2000;
 

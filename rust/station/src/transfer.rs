@@ -1,9 +1,9 @@
-//! A complete transfer: the one pass.
+//! A complete data transfer: the one pass of `judge`.
 
 use crate::Handovers;
 
-/// A complete transfer: the stream was finished, and some sender and receiver that keep the rules could have made the
-/// recording. Only the judge makes one: to have it is to have a pass.
+/// A complete data transfer: the stream was finished, and some sender and receiver that keep the rules could have made the
+/// recording. Only [`judge`](crate::judge) makes one: to have it is to have a pass.
 #[derive(Clone, Copy, Debug, PartialEq, Eq)]
 pub struct Transfer<'lent> {
     /// The bytes handed over.

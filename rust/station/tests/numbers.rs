@@ -1,6 +1,6 @@
 //! The numbers: by value, by name, in words, and as the repository's table has them.
 
-use station::{Fault, Refusal, UnknownNumber, WriteRefusal, COMPLETE, WRITTEN};
+use station::{CommandClass, Fault, Refusal, UnknownNumber, WriteRefusal, COMPLETE, WRITTEN};
 use std::fmt::{Debug, Display};
 use std::str::FromStr;
 
@@ -71,6 +71,11 @@ fn a_number_is_found_by_its_value_and_its_name() {
         WriteRefusal::ALL,
         "refusal of the writer",
         WriteRefusal::number,
+    );
+    find(
+        CommandClass::ALL,
+        "class of command bytes",
+        CommandClass::number,
     );
 }
 

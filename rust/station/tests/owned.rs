@@ -28,6 +28,29 @@ fn one_judge_judges_one_recording_after_another() {
 }
 
 #[test]
+fn one_judge_judges_data_and_commands() {
+    let mut judge = Judge::new();
+    let commands = include_bytes!("../../../samples/commands/drive-addressed.rec");
+    let too_soon = include_bytes!("../../../samples/commands/last-hold-99.rec");
+    let data = write_to_vec(b"HELLO").unwrap();
+    for _ in 0..2 {
+        let transfer = judge.judge_command(commands).unwrap();
+        assert_eq!(transfer.bytes(), [0x28, 0x6F]);
+        assert_eq!(judge.before_fault().len(), 0);
+
+        assert_eq!(judge.judge_command(too_soon).unwrap_err().number(), 39);
+        assert!(judge.before_fault().map(|one| one.byte).eq([0x28]));
+
+        assert_eq!(judge.judge_command(&data).unwrap_err().number(), 39);
+        assert_eq!(judge.before_fault().len(), 0);
+
+        assert_eq!(judge.judge(&data).unwrap().bytes(), b"HELLO");
+        assert_eq!(judge.judge(commands).unwrap_err().number(), 23);
+        assert_eq!(judge.before_fault().len(), 0);
+    }
+}
+
+#[test]
 fn a_recording_is_written_to_memory_of_its_own() {
     let s1 = include_bytes!("../../../samples/s1.rec");
     assert_eq!(write_to_vec(b"A").as_deref(), Ok(&s1[..]));
