@@ -24,7 +24,7 @@ pub enum Fault {
     AttentionReleased,
 }
 
-// Only a recording that runs out in phase E is complete: no tick can decide so.
+// Only a recording that runs out in phase E, or after the finish of commands, is complete: no tick can decide so.
 pub enum Verdict {
     Complete,
     Cut,
