@@ -1,7 +1,8 @@
 // One case of the comparison: what class it is of, how its recording is judged, and what must come of it.
+use crate::entry::Entry;
 use crate::made::draft;
 use crate::made::transfer::Sent;
-use answer::Answer;
+use second_judge::Finding;
 
 // How long the two buffers are, more than is asked for.
 pub(crate) const BYTES: usize = 1200;
@@ -12,6 +13,8 @@ pub(crate) struct Case {
     // The class's name, and how many cases it has.
     pub class: [u8; 10],
     pub cases: u32,
+    // The entry that it is handed to.
+    pub entry: Entry,
     // The recording's true length, and how many places of each buffer are lent.
     pub length: usize,
     pub bytes: usize,
@@ -22,10 +25,11 @@ pub(crate) struct Case {
 }
 
 impl Case {
-    // There is no such class.
+    // No class, and nothing recorded: what a case is but for what its class says.
     pub(crate) const NONE: Case = Case {
         class: *b"none      ",
         cases: 0,
+        entry: Entry::Plain,
         length: 0,
         bytes: BYTES,
         ledger: LEDGER,
@@ -34,10 +38,11 @@ impl Case {
     };
 
     // The recording as long as its header says, with all places lent.
-    pub(crate) fn of_file(class: [u8; 10], cases: u32, file: &[u8]) -> Case {
+    pub(crate) fn of_file(class: [u8; 10], cases: u32, entry: Entry, file: &[u8]) -> Case {
         Case {
             class,
             cases,
+            entry,
             length: draft::word_at(file, draft::LENGTH_AT) as usize,
             ..Case::NONE
         }
@@ -66,6 +71,15 @@ impl Required {
         ticks: [0; 24],
     };
 
+    // This number at this tick.
+    pub(crate) fn verdict(number: u32, tick: u32) -> Required {
+        Required {
+            number,
+            tick,
+            ..Required::NOTHING
+        }
+    }
+
     // And this byte too, its CLK pull after bit 8 being at this tick.
     pub(crate) fn with(mut self, index: u32, sent: Sent, pull: u32) -> Required {
         let place = (index % 12) as usize;
@@ -75,15 +89,10 @@ impl Required {
         self
     }
 
-    pub(crate) fn is_met(
-        self,
-        answer: Answer,
-        bytes: &[u8; BYTES],
-        ledger: &[u32; LEDGER],
-    ) -> bool {
-        ((self.number == ANY) | (self.number == answer.number as u32))
-            & ((self.tick == ANY) | (self.tick == answer.tick))
-            & ((self.count == 0) | (self.count == answer.count))
+    pub(crate) fn is_met(self, it: Finding, bytes: &[u8; BYTES], ledger: &[u32; LEDGER]) -> bool {
+        ((self.number == ANY) | (self.number == it.number))
+            & ((self.tick == ANY) | (self.tick == it.tick))
+            & ((self.count == 0) | (self.count == it.count))
             & self.is_handed_over(bytes, ledger)
     }
 

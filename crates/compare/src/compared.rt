@@ -1,25 +1,43 @@
-// One recording before both judges: this is the only place where they are called.
-ghost use Rattle.answer.specs.Basics.{_≤_};
+// One recording before both judges, by the entry of its case: this is the only place where they are called.
+ghost use Rattle.answer.specs.Basics.{_<_, _≤_};
 use crate::case::BYTES;
 use crate::case::Case;
 use crate::case::LEDGER;
+use crate::entry::Entry;
 use crate::output;
+use answer::Answer;
 use second_judge::Finding;
 
-// What is counted: the recordings with each number as the answer, and the differences.
+// What is counted: the recordings with each number as the answer, for data and then for commands, and the differences.
 pub(crate) struct Tally {
-    pub numbers: [u32; 64],
+    pub numbers: [u32; 128],
     pub differences: u32,
 }
 
 impl Tally {
     pub(crate) const NONE: Tally = Tally {
-        numbers: [0; 64],
+        numbers: [0; 128],
         differences: 0,
     };
 
-    fn count(mut self, number: u32) -> Tally {
+    fn place(entry: Entry, number: u32) -> usize
+        ensures { λ r. ⌜ r < 128 ⌝ }
+    {
         let place = (number % 64) as usize;
+        match entry {
+            Entry::Plain => place,
+            Entry::Command => 64 + place,
+        }
+    }
+
+    // How many recordings had this number by this entry.
+    pub(crate) fn of(self, entry: Entry, number: u8) -> u32 {
+        let place = Tally::place(entry, number as u32);
+        self.numbers[place]
+    }
+
+    fn count(mut self, entry: Entry, number: u32) -> Tally {
+        let place = Tally::place(entry, number);
         self.numbers[place] = std::num::wrapping_add_u32(self.numbers[place], 1);
         self
     }
@@ -64,25 +82,45 @@ fn judge_by_both(file: &[u8], case: Case) -> Outcome {
     let mut other_ledger = ledger;
     let places = at_most(case.bytes, BYTES);
     let ticks = at_most(case.ledger, LEDGER);
-    let answer = judge::judge(file, &mut bytes[0..places], &mut ledger[0..ticks]);
-    let second = second_judge::judge_by_steps(
+    let entry = case.entry;
+    let first = judge_first(entry, file, &mut bytes[0..places], &mut ledger[0..ticks]);
+    let second = judge_second(
+        entry,
         file,
         &mut other_bytes[0..places],
         &mut other_ledger[0..ticks],
     );
     let required = case.required;
     Outcome {
-        first: Finding {
-            number: answer.number as u32,
-            tick: answer.tick,
-            step: answer.step,
-            count: answer.count,
-        },
+        first,
         second,
         place: first_other(&bytes, &other_bytes, &ledger, &other_ledger),
-        is_met: required.is_met(answer, &bytes, &ledger),
+        is_met: required.is_met(first, &bytes, &ledger),
         let_go: ledger[0],
         take: ledger[1],
+    }
+}
+
+fn judge_first(entry: Entry, file: &[u8], bytes: &mut [u8], ledger: &mut [u32]) -> Finding {
+    match entry {
+        Entry::Plain => finding(judge::judge(file, bytes, ledger)),
+        Entry::Command => finding(judge::judge_command(file, bytes, ledger)),
+    }
+}
+
+fn finding(answer: Answer) -> Finding {
+    Finding {
+        number: answer.number as u32,
+        tick: answer.tick,
+        step: answer.step,
+        count: answer.count,
+    }
+}
+
+fn judge_second(entry: Entry, file: &[u8], bytes: &mut [u8], ledger: &mut [u32]) -> Finding {
+    match entry {
+        Entry::Plain => second_judge::judge_by_steps(file, bytes, ledger),
+        Entry::Command => second_judge::judge_command_by_steps(file, bytes, ledger),
     }
 }
 
@@ -122,8 +160,9 @@ pub(crate) fn compare(file: &[u8], number: u32, case: Case, tally: Tally) -> Tal
     let outcome = judge_by_both(file, case);
     let first = outcome.first;
     let title = case.title;
+    let entry = case.entry;
     output::print_titled(title, outcome);
-    let counted = tally.count(first.number);
+    let counted = tally.count(entry, first.number);
     if outcome.is_good() {
         return counted;
     }

@@ -2,6 +2,7 @@
 mod case;
 mod classes;
 mod compared;
+mod entry;
 mod made;
 mod output;
 

@@ -2,6 +2,7 @@
 use crate::case::Case;
 use crate::compared::Outcome;
 use crate::compared::Tally;
+use crate::entry::Entry;
 use crate::made::draft;
 use libc::STDOUT_FILENO;
 use second_judge::Finding;
@@ -30,11 +31,42 @@ fn print_finding(text: &[u8], it: Finding) {
     print_line(text, &[it.number, it.tick, it.step, it.count]);
 }
 
-// A class's name, and how many cases it has.
-pub(crate) fn print_class(case: Case) {
-    if case.cases != 0 {
-        let class = case.class;
-        print_line(&class, &[case.cases]);
+// A class's name, the entry that its recordings were handed to, how many there are, and how many had each number.
+pub(crate) fn print_class(first: Case, before: Tally, after: Tally) {
+    let entry = first.entry;
+    print_handed(first, first.cases);
+    print_shares(entry, before, after, &NUMBERS);
+    print(b"\n");
+}
+
+fn print_handed(case: Case, number: u32) {
+    let class = case.class;
+    let entry = case.entry;
+    print(&class);
+    match entry {
+        Entry::Plain => print(b" data     "),
+        Entry::Command => print(b" commands "),
+    }
+    io::print_decimal(STDOUT_FILENO, number as u64);
+}
+
+fn print_shares(entry: Entry, before: Tally, after: Tally, numbers: &[u8]) {
+    let mut place: usize = 0;
+    while place < numbers.len() {
+        print_share(entry, before, after, numbers[place]);
+        place += 1;
+    }
+}
+
+// Nothing if there was none.
+fn print_share(entry: Entry, before: Tally, after: Tally, number: u8) {
+    let first = before.of(entry, number);
+    let last = after.of(entry, number);
+    if first != last {
+        print(b" ");
+        io::print_decimal(STDOUT_FILENO, number as u64);
+        print(b":");
+        io::print_decimal(STDOUT_FILENO, wide(std::num::wrapping_sub_u32(last, first)));
     }
 }
 
@@ -60,11 +92,10 @@ const MOST_SHOWN: usize = 1216;
 
 // The case, what both judges gave, what was required, and the recording: each four bytes of it, the last one first.
 pub(crate) fn print_difference(file: &[u8], number: u32, case: Case, outcome: Outcome) {
-    let class = case.class;
     let it = case.required;
     print(b"difference in ");
-    print_line(&class, &[number]);
-    print_finding(b"  first judge", outcome.first);
+    print_handed(case, number);
+    print_finding(b"\n  first judge", outcome.first);
     print_finding(b"  second judge", outcome.second);
     let place = (outcome.place % 65_536) as u32;
     print_line(
@@ -86,9 +117,16 @@ fn print_words(file: &[u8]) {
 }
 
 // Every number that a judge may give.
-const REFUSALS: [u8; 9] = [1, 2, 3, 4, 5, 6, 7, 8, 9];
-
-const VERDICTS: [u8; 18] = [
+const NUMBERS: [u8; 29] = [
+    1,
+    2,
+    3,
+    4,
+    5,
+    6,
+    7,
+    8,
+    9,
     20,
     21,
     22,
@@ -107,16 +145,14 @@ const VERDICTS: [u8; 18] = [
     35,
     36,
     37,
+    38,
+    39,
 ];
 
-// How many recordings had each number, how many numbers none had, and the differences.
+// How many recordings of data and of commands had each number, how many numbers none had, and the differences.
 pub(crate) fn print_tally(tally: Tally) {
-    let refusals = print_numbers(tally, &REFUSALS);
-    let verdicts = print_numbers(tally, &VERDICTS);
-    print_line(
-        b"missing",
-        &[std::num::wrapping_add_u32(refusals, verdicts)],
-    );
+    let missing = print_numbers(tally, &NUMBERS);
+    print_line(b"missing", &[missing]);
     print_line(b"differences", &[tally.differences]);
 }
 
@@ -125,22 +161,25 @@ fn print_numbers(tally: Tally, numbers: &[u8]) -> u32 {
     let mut missing: u32 = 0;
     let mut place: usize = 0;
     while place < numbers.len() {
-        let number = numbers[place];
-        let count = tally.numbers[(number % 64) as usize];
-        missing = std::num::wrapping_add_u32(missing, print_count(number, count));
+        missing = std::num::wrapping_add_u32(missing, print_counts(tally, numbers[place]));
         place += 1;
     }
     missing
 }
 
 // Gives 1 if there was none.
-fn print_count(number: u8, count: u32) -> u32 {
+fn print_counts(tally: Tally, number: u8) -> u32 {
+    let of_data = tally.of(Entry::Plain, number);
+    let of_commands = tally.of(Entry::Command, number);
     io::print_decimal(STDOUT_FILENO, number as u64);
     print(b" ");
     files::print_name(STDOUT_FILENO, number as u32);
-    print_line(b"", &[count]);
-    if count == 0 {
-        return 1;
+    print_line(b"", &[of_data, of_commands]);
+    if of_data != 0 {
+        return 0;
     }
-    0
+    if of_commands != 0 {
+        return 0;
+    }
+    1
 }

@@ -1,9 +1,10 @@
-// Carried and open handovers at each offset, in each byte of the base.
+// Carried and open handovers at each offset, and holds of each length, in each byte of the base.
 use crate::case::Case;
+use crate::entry::Entry;
 use crate::made::transfer::Sent;
 use crate::made::transfer::Transfer;
 
-const KINDS: u32 = 9;
+const KINDS: u32 = 10;
 
 const OFFSETS: u32 = 110;
 
@@ -14,11 +15,12 @@ struct Kind(u8, u32, u32, u32, u32, u32);
 
 const IT: u32 = 0xFFFF_FFFF;
 
-const ALL: [Kind; 9] = [
+const ALL: [Kind; 10] = [
     // Bit 8 zero: the take at each offset, from 0 and from 900 on.
     Kind(0x41, 0, 0, IT, 200, 0),
     Kind(0x41, 0, 900, IT, 200, 0),
-    // Carried up to each offset, where CLK is released.
+    // Held, and carried, up to each offset, where CLK is released or, after the last byte of commands, ATN.
+    Kind(0x41, 0, 30, 0, 0, IT),
     Kind(0xC1, 0, 0, 0, 0, IT),
     // Carried up to each offset, then open: the take comes 1 or 60 ticks later, 2 later with too short a hold, or at 999
     // to 1,001.
@@ -40,13 +42,13 @@ fn sent_at(number: u32, offset: u32) -> Sent {
     }
 }
 
-pub(crate) fn put(number: u32, file: &mut [u8]) -> Case {
+pub(crate) fn put(entry: Entry, number: u32, file: &mut [u8]) -> Case {
     let sent = sent_at(number / BYTES, number / BYTES % OFFSETS);
     let transfer = Transfer {
         target: number % BYTES,
         sent,
-        ..Transfer::BASE
+        ..Transfer::base(entry)
     };
     transfer.put(file);
-    Case::of_file(*b"handovers ", KINDS * OFFSETS * BYTES, file)
+    Case::of_file(*b"handovers ", KINDS * OFFSETS * BYTES, entry, file)
 }

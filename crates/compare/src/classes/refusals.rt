@@ -1,6 +1,7 @@
 // Each refusal at its edge and beside the ones before and after it, with buffers shorter and longer than asked: S1 with
 // four of its bytes changed.
 use crate::case::Case;
+use crate::entry::Entry;
 use crate::made::draft;
 
 const CHANGES: u32 = 32;
@@ -59,8 +60,8 @@ const BYTES: [usize; 5] = [1200, 1000, 999, 1200, 0];
 
 const LEDGER: [usize; 5] = [2400, 2000, 2400, 1999, 0];
 
-pub(crate) fn put(number: u32, file: &mut [u8]) -> Case {
-    let change = ALL[(number / ROOMS % CHANGES) as usize];
+pub(crate) fn put(entry: Entry, number: u32, file: &mut [u8]) -> Case {
+    let change = change_at(number / ROOMS);
     let room = (number % ROOMS) as usize;
     writer::write(&[0x41], file);
     draft::put_word(file, change.0, change.1);
@@ -68,6 +69,11 @@ pub(crate) fn put(number: u32, file: &mut [u8]) -> Case {
         length: change.2,
         bytes: BYTES[room],
         ledger: LEDGER[room],
-        ..Case::of_file(*b"refusals  ", CHANGES * ROOMS, file)
+        ..Case::of_file(*b"refusals  ", CHANGES * ROOMS, entry, file)
     }
+}
+
+// Apart, since the table is dear to prove beside anything else.
+fn change_at(number: u32) -> Change {
+    ALL[(number % CHANGES) as usize]
 }

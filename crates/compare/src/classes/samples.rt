@@ -2,6 +2,7 @@
 use crate::case::ANY;
 use crate::case::Case;
 use crate::case::Required;
+use crate::entry::Entry;
 use crate::made::draft;
 use crate::made::manner::Manner;
 use crate::made::transfer::Transfer;
@@ -50,20 +51,20 @@ const SAMPLES: [Sample; 20] = [
 ];
 
 pub(crate) fn put(number: u32, file: &mut [u8]) -> Case {
-    let sample = SAMPLES[(number % 20) as usize];
+    let sample = sample_at(number);
     put_begun(file, sample.1);
     put_step(file, sample.2, sample.3, sample.4);
     let title = sample.0;
-    let required = Required {
-        number: sample.5,
-        tick: sample.6,
-        ..Required::NOTHING
-    };
     Case {
         title,
-        required,
-        ..Case::of_file(*b"samples   ", 20, file)
+        required: Required::verdict(sample.5, sample.6),
+        ..Case::of_file(*b"samples   ", 20, Entry::Plain, file)
     }
+}
+
+// Apart, since the table is dear to prove beside anything else.
+fn sample_at(number: u32) -> Sample {
+    SAMPLES[(number % 20) as usize]
 }
 
 fn put_begun(file: &mut [u8], begun: u32) {
@@ -81,27 +82,22 @@ fn put_begun(file: &mut [u8], begun: u32) {
         writer::write(&[0x41], file);
         return;
     }
-    put_byte(file, begun);
+    if begun == S1_SRQ {
+        return put_byte(file, 0, draft::SRQ);
+    }
+    put_byte(file, 2, 0);
 }
 
-// The first byte of the base alone, with SRQ set everywhere, or the third.
-fn put_byte(file: &mut [u8], begun: u32) {
-    if begun == CARRIED {
-        Transfer {
-            count: 1,
-            first: 2,
-            ..Transfer::BASE
-        }.put(file);
-        return;
-    }
-    let manner = Manner {
-        state: 0,
-        more: draft::SRQ,
-    };
+// One byte of the base alone, with these lines set everywhere.
+fn put_byte(file: &mut [u8], first: u32, more: u8) {
     Transfer {
-        manner,
+        manner: Manner {
+            more,
+            ..Manner::PLAIN
+        },
         count: 1,
-        ..Transfer::BASE
+        first,
+        ..Transfer::base(Entry::Plain)
     }.put(file);
 }
 

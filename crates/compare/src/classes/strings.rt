@@ -1,13 +1,14 @@
 // Written strings of many lengths up to 799, with drawn contents.
 use crate::case::Case;
+use crate::entry::Entry;
 use crate::made::draft::part;
 use crate::made::manner::Manner;
 
 pub(crate) fn put(number: u32, file: &mut [u8]) -> Case {
     let mut string = [0u8; 799];
-    fill_drawn(&mut string, Manner::drawn(number));
+    fill_drawn(&mut string, Manner::PLAIN.drawn(number));
     writer::write(part(&string, length_of(number)), file);
-    Case::of_file(*b"strings   ", 128, file)
+    Case::of_file(*b"strings   ", 128, Entry::Plain, file)
 }
 
 // 0 to 63, and every twelfth from 43 to 799.

@@ -1,7 +1,9 @@
 // A recording that is being put down, step after step: its own header is right for the steps so far. It is read and
 // changed by words of four bytes; a word beyond its end reads as 0, and nothing is put there.
 
-// Line bits of a step, and (1,1).
+// Line bits of a step, (1,1), and all but ATN.
+pub(crate) const ATN: u8 = 1;
+
 pub(crate) const CLK: u8 = 2;
 
 pub(crate) const DATA: u8 = 4;
@@ -9,6 +11,8 @@ pub(crate) const DATA: u8 = 4;
 pub(crate) const SRQ: u8 = 8;
 
 pub(crate) const BOTH: u8 = 6;
+
+pub(crate) const ALL_BUT_ATN: u8 = 14;
 
 // Of the header's words the third and the fourth: the total and the length. The first is the version with the step count
 // above it, and the second the first step's place.

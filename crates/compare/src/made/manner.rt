@@ -7,19 +7,31 @@ pub(crate) struct Manner {
     pub state: u64,
     // Line bits that each step has besides its own.
     pub more: u8,
+    // Line bits that are free, and drawn where something is: SRQ, and after the finish of commands CLK and DATA too.
+    pub free: u8,
+    // From this tick on ATN is turned round.
+    pub turn: u32,
 }
 
 impl Manner {
     // Any start but 0.
     const START: u64 = 0x9E37_79B9_7F4A_7C15;
 
-    pub(crate) const PLAIN: Manner = Manner { state: 0, more: 0 };
+    // No recording has this tick.
+    pub(crate) const NEVER: u32 = 0xFFFF_FFFF;
+
+    pub(crate) const PLAIN: Manner = Manner {
+        state: 0,
+        more: 0,
+        free: draft::SRQ,
+        turn: Manner::NEVER,
+    };
 
     // Each case has a start of its own, so that it can be made again by itself.
-    pub(crate) fn drawn(number: u32) -> Manner {
+    pub(crate) fn drawn(self, number: u32) -> Manner {
         let start = Manner {
             state: Manner::START ^ (number as u64),
-            more: 0,
+            ..self
         };
         start.next().next().next().next()
     }
@@ -29,7 +41,7 @@ impl Manner {
         let right = left ^ (left >> 7);
         Manner {
             state: right ^ (right << 17),
-            more: self.more,
+            ..self
         }
     }
 
@@ -54,8 +66,22 @@ impl Manner {
         std::num::wrapping_add_u32(least, self.below(std::num::wrapping_add_u32(width, 1)))
     }
 
-    // Lines with those that every step has, and SRQ as it is drawn.
-    pub(crate) fn lines(self, lines: u8) -> u8 {
-        lines | self.more | (self.state / 4 % 2) as u8 * draft::SRQ
+    // After how many of some ticks, the first of them being `begin`, a further step begins: at the turn of ATN if it is
+    // among them, otherwise where it is drawn.
+    pub(crate) fn step_end(self, begin: u32, ticks: u32) -> u32 {
+        let before = std::num::wrapping_sub_u32(self.turn, begin);
+        if before < ticks {
+            return before;
+        }
+        self.below(ticks)
+    }
+
+    // What a step shows that begins at this tick: its lines with those that every step has, and the free ones drawn.
+    pub(crate) fn lines(self, begin: u32, lines: u8) -> u8 {
+        let shown = (lines | self.more) ^ ((self.state / 4 % 16) as u8 & self.free);
+        if begin < self.turn {
+            return shown;
+        }
+        shown ^ draft::ATN
     }
 }

@@ -1,5 +1,6 @@
 // Whole transfers, and their bytes.
 use crate::case::Required;
+use crate::entry::Entry;
 use crate::made::draft;
 use crate::made::manner::Manner;
 use crate::made::pieces;
@@ -53,9 +54,13 @@ const TAKES: [u32; 4] = [30, 30, 1, 70];
 
 pub(crate) struct Transfer {
     pub manner: Manner,
+    // The entry that it is made for.
+    pub entry: Entry,
     // How many bytes there are, and which of those above is the first.
     pub count: u32,
     pub first: u32,
+    // CLK stays pulled so long after their takes.
+    pub hold: u32,
     // The byte `target`, if there is one, is this.
     pub target: u32,
     pub sent: Sent,
@@ -68,18 +73,35 @@ struct Put {
 }
 
 impl Transfer {
-    pub(crate) const BASE: Transfer = Transfer {
-        manner: Manner::PLAIN,
-        count: 4,
-        first: 0,
-        target: 4,
-        sent: Sent {
-            value: 0,
-            let_go: 0,
-            take: 0,
-            hold: 0,
-        },
-    };
+    // The four bytes above, for either entry; ATN is pulled up to the finish of commands.
+    pub(crate) fn base(entry: Entry) -> Transfer {
+        Transfer {
+            manner: Manner {
+                more: entry.attention(),
+                ..Manner::PLAIN
+            },
+            entry,
+            count: 4,
+            first: 0,
+            hold: 200,
+            target: 4,
+            sent: Sent {
+                value: 0,
+                let_go: 0,
+                take: 0,
+                hold: 0,
+            },
+        }
+    }
+
+    // The last byte of data has the end mark, and none of commands.
+    fn has_end_mark(self, index: u32) -> bool {
+        let entry = self.entry;
+        match entry {
+            Entry::Plain => std::num::wrapping_add_u32(index, 1) == self.count,
+            Entry::Command => false,
+        }
+    }
 
     fn sent_at(self, index: u32, manner: Manner) -> Sent {
         if self.target == index {
@@ -93,12 +115,12 @@ impl Transfer {
             value: VALUES[place],
             let_go: LETTING_GO[place],
             take: TAKES[place],
-            hold: 200,
+            hold: self.hold,
         }
     }
 
-    // Puts it down, and gives what must come of it if it keeps the two parties' own rules: 20 with its string, no ledger
-    // tick being later than its own.
+    // Puts it down, and gives what must come of it if it keeps the two parties' own rules: 20 with its finish tick and its
+    // string, no ledger tick being later than its own.
     pub(crate) fn put(self, file: &mut [u8]) -> Required {
         let mut put = Put {
             manner: pieces::put_stretches(file, self.manner, pieces::START, pieces::BYTE),
@@ -109,9 +131,11 @@ impl Transfer {
             put = self.put_byte(file, put, index);
             index += 1;
         }
-        pieces::put_stretches(file, put.manner, pieces::END, pieces::ALL);
+        let entry = self.entry;
+        let finish = pieces::put_end(file, put.manner, entry);
         let mut required = put.required;
         required.number = 20;
+        required.tick = finish;
         required.count = self.count;
         required
     }
@@ -120,8 +144,7 @@ impl Transfer {
         let manner = put.manner;
         let required = put.required;
         let sent = self.sent_at(index, manner);
-        let is_last = std::num::wrapping_add_u32(index, 1) == self.count;
-        let led = pieces::put_lead(file, manner.next().next(), is_last);
+        let led = pieces::put_lead(file, manner.next().next(), self.has_end_mark(index));
         let bits = pieces::put_bits(file, led, sent.value);
         let pull = draft::word_at(file, draft::TOTAL_AT);
         Put {

@@ -5,10 +5,10 @@ use Rattle.compare.proofs.classes.compare_class.Statement.{statement}
 use Rattle.compare.proofs.classes.compare_class.Tie as tie
 
 abbrev Inv-loop : tie.InvT-loop
-Inv-loop class file₀ first tally₀ number₀ file tally number = length file ≡ length file₀
+Inv-loop class file₀ before first tally₀ number₀ file tally number = length file ≡ length file₀
 
 abbrev μ-loop : tie.MeasureT-loop
-μ-loop class file₀ first tally₀ number₀ file tally number = first .cases - number
+μ-loop class file₀ before first tally₀ number₀ file tally number = first .cases - number
 
 pub compare-class-spec : {M : Type 1} → statement M
 compare-class-spec =
