@@ -201,8 +201,8 @@ impl State {
         if let Phase::End(finish) = phase {
             return Decision::complete(finish);
         }
-        if let Phase::Finished(finish) = phase {
-            return Decision::complete(finish);
+        if let Phase::Finished(finished) = phase {
+            return Decision::complete(finished);
         }
         if let Phase::Decided(fault) = phase {
             return Decision::broken(fault, tick);
