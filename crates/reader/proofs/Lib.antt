@@ -3,5 +3,6 @@ pub mod Tests
 pub mod Endings
 pub mod TickLaws
 pub mod IdleLaws
+mod Heeding
 pub mod Outcomes
 pub mod Ends

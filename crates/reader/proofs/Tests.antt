@@ -3,10 +3,10 @@ use Rattle.answer.specs.Basics.{ℕ, zero, suc, _+_, _-_, _^_, _<_, Bool, true,
 use native.Mathlib.Omega.{arith}
 use mathlib.Core.Path.{refl, sym, ap, subst, _∙_}
 use borrow.Author.Tests.{eq-eqb, ne-eqb, lt-ltb, le-ltb, leb-true, leb-false}
-use Rattle.transfer.specs.{Types.Entry, Types.Lines, Types.Limits, Types.Byte, Types.Phase, Moves.finishing, Moves.noByte}
+use Rattle.transfer.specs.{Types.Lines, Types.Limits, Types.Byte, Types.Phase, Moves.finishing, Moves.noByte}
 use Rattle.transfer.specs.{Moves.heldByte, Moves.decisionOf}
 use Rattle.transfer.specs.Phases.{below, upTo, Move, same, afterBit}
-use Rattle.reader.specs.States.{follow, readIn, releasedIn, finishedIn, heededIn}
+use Rattle.reader.specs.States.{follow, readIn, releasedIn, finishedIn}
 use Rattle.reader.specs.declared.state.State.{State}
 
 pub clk-on : (l : Lines) → l .clk ≡ true → l .clk ≡ true
@@ -52,13 +52,9 @@ more-bits (suc n) x f e = ap f (omega arith)
 pub told : (L : Limits) (s : State) (l : Lines) {p q : Phase} {r : State} → p ≡ q → r ≡ readIn L s q l → r ≡ readIn L s p l
 told L s l e f = f ∙ sym (ap (λ (p : Phase). readIn L s p l) e)
 
--- The same of a tick with ATN released, and of what an entry makes of ATN.
+-- The same of a tick with ATN released.
 pub released-told : (L : Limits) (s : State) (l : Lines) {p q : Phase} {r : State} → p ≡ q → r ≡ releasedIn L s q l → r ≡ releasedIn L s p l
 released-told L s l e f = f ∙ sym (ap (λ (p : Phase). releasedIn L s p l) e)
-
-pub heeded-told : (L : Limits) (s : State) (l : Lines) {entry told : Entry} {r : State} → entry ≡ told → r ≡ heededIn L s told l
-    → r ≡ heededIn L s entry l
-heeded-told L s l e f = f ∙ sym (ap (λ (n : Entry). heededIn L s n l) e)
 
 -- Whether it is too soon for the finish was found out by a call; the state does not keep which byte the finish hands over.
 pub finished-by : (s : State) (l : Lines) (byte : Byte) {t u : Bool} {r : State} → t ≡ u → r ≡ finishedIn s t l

@@ -1,9 +1,9 @@
 -- "Reading goes from state to state, one tick after another, and stops for good at the deciding tick."
-use Rattle.answer.specs.Basics.{_+_, _^_, _<_, Bool}
+use Rattle.answer.specs.Basics.{_+_, _^_, _<_, Bool, true, false}
 use Rattle.answer.specs.Types.{Attention}
 use Rattle.transfer.specs.Moves.{stage, noByte, finishing, released, heed, move}
 use Rattle.transfer.specs.Phases.{Move, Go, Hand, Stop, next}
-use Rattle.transfer.specs.Types.{Entry, Limits, Lines, Phase, Start, Decided}
+use Rattle.transfer.specs.Types.{Entry, Plain, Command, Limits, Lines, Phase, Start, Decided}
 use Rattle.reader.specs.declared.state.State.{State}
 
 -- Before tick 0.
@@ -33,12 +33,13 @@ releasedIn L s phase lines = follow s (released L (s .tick) (stage phase) (lines
 abbrev pub finishedIn : State → (too-soon : Bool) → Lines → State
 finishedIn s too-soon lines = follow s (finishing too-soon (s .tick) noByte (lines .clk) (lines .«data»))
 
--- The state after a tick of an entry, where no verdict has fallen.
-abbrev pub heededIn : Limits → State → Entry → Lines → State
-heededIn L s entry lines =
-    follow s
-    (heed entry (lines .atn) (Stop Attention) (next L (s .tick) (s .phase) (lines .clk) (lines .«data»))
-    (released L (s .tick) (stage (s .phase)) (lines .clk) (lines .«data»)))
+-- What ATN means, in two: whether it leaves a tick to the rows, and the state after one that it does not.
+abbrev pub isUnderWay : Entry → (atn : Bool) → Bool
+isUnderWay entry atn = heed entry atn false true false
+
+abbrev pub turnedIn : Limits → State → Entry → Lines → State
+turnedIn L s Plain lines = follow s (Stop Attention)
+turnedIn L s Command lines = releasedIn L s (s .phase) lines
 
 -- One tick.
 unfoldable pub nextState : Limits → State → Lines → State

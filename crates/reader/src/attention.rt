@@ -1,36 +1,36 @@
 // What ATN means: it is looked at before the phase's rows.
 ghost use Rattle.answer.specs.Basics.{_≡_};
-ghost use Rattle.transfer.specs.Types.{Plain, Command};
-ghost use Rattle.reader.specs.States.{heededIn, releasedIn, finishedIn, Countable};
+ghost use Rattle.reader.specs.States.{isUnderWay, turnedIn, releasedIn, finishedIn, Countable};
 use crate::offset::below;
 use crate::offset::up_to;
 use crate::state::State;
 use answer::Fault;
+use transfer::Entry;
 use transfer::Limits;
 use transfer::Lines;
 use transfer::Phase;
 
-impl State {
-    // A data transfer has ATN released throughout.
-    pub(crate) fn plain(self, limits: Limits, lines: Lines) -> State
-        requires { ⌜ Countable self ⌝ }
-        ensures { λ r. ⌜ r ≡ heededIn limits self Plain lines ⌝ }
-    {
-        if lines.atn {
-            return self.stop(Fault::Attention);
-        }
-        self.rows(limits, lines)
+// Whether ATN is as it is while a transfer goes on: released for data, pulled for commands. Then the rows of the phase are read.
+pub(crate) fn is_under_way(entry: Entry, atn: bool) -> bool
+    ensures { λ r. ⌜ r ≡ isUnderWay entry atn ⌝ }
+{
+    match entry {
+        Entry::Plain => !atn,
+        Entry::Command => atn,
     }
+}
 
-    // Commands have it pulled until their finish.
-    pub(crate) fn command(self, limits: Limits, lines: Lines) -> State
+impl State {
+    // ATN is the other way round.
+    pub(crate) fn turned(self, limits: Limits, lines: Lines) -> State
         requires { ⌜ Countable self ⌝ }
-        ensures { λ r. ⌜ r ≡ heededIn limits self Command lines ⌝ }
+        ensures { λ r. ⌜ r ≡ turnedIn limits self (limits .entry) lines ⌝ }
     {
-        if lines.atn {
-            return self.rows(limits, lines);
+        let entry = limits.entry;
+        match entry {
+            Entry::Plain => self.stop(Fault::Attention),
+            Entry::Command => self.released(limits, lines),
         }
-        self.released(limits, lines)
     }
 
     // ATN is released: the finish, or a tick after it, or out of place. In a carried handover the take is at offset 1.

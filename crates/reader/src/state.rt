@@ -3,12 +3,12 @@ ghost use Rattle.answer.specs.Basics.{_^_, _<_, _≡_, if_then_else_};
 ghost use Rattle.transfer.specs.Moves.{isDecided, heldByte, decisionOf};
 ghost use Rattle.transfer.specs.Phases.{below, upTo, Go, Stop};
 ghost use Rattle.reader.specs.States.{follow, handedOn, readIn, nextState, firstState, Countable};
+use crate::attention::is_under_way;
 use crate::offset::below;
 use crate::offset::up_to;
 use answer::Fault;
 use transfer::Byte;
 use transfer::Decision;
-use transfer::Entry;
 use transfer::Limits;
 use transfer::Lines;
 use transfer::Phase;
@@ -150,10 +150,10 @@ impl State {
             return self;
         }
         let entry = limits.entry;
-        match entry {
-            Entry::Plain => self.plain(limits, lines),
-            Entry::Command => self.command(limits, lines),
+        if is_under_way(entry, lines.atn) {
+            return self.rows(limits, lines);
         }
+        self.turned(limits, lines)
     }
 
     // A verdict has fallen.
