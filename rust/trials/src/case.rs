@@ -1,6 +1,9 @@
 //! One case: what a class draws.
 
-use parties::{check_pair, file_of, ticks_of, Pair, Random, Step, Transfer};
+use crate::entry::Entry;
+use parties::draw::{self, Style};
+use parties::{check_pair, file_of, ticks_of, Kind, Pair, Random, Step, Transfer};
+use station::Fault;
 
 /// What must come of a case, besides both judges agreeing.
 #[derive(Clone, Copy, Debug, Default, PartialEq, Eq)]
@@ -12,6 +15,13 @@ pub enum Expected {
     Complete,
     /// It is complete with the case's string, each tick of its ledger the same as the case's or earlier.
     CompleteByTicks,
+    /// It has this fault, decided at this tick.
+    Fault {
+        /// The fault.
+        fault: Fault,
+        /// The tick.
+        tick: u32,
+    },
     /// It is an empty stream.
     Empty,
 }
@@ -19,6 +29,8 @@ pub enum Expected {
 /// One case; a default one is empty.
 #[derive(Default)]
 pub struct Case {
+    /// The entry that the recording is handed to.
+    pub entry: Entry,
     /// A recording's steps, before they are put into a file.
     pub steps: Vec<Step>,
     /// The recording.
@@ -38,6 +50,14 @@ pub struct Case {
 }
 
 impl Case {
+    /// Draws a transfer of `count` bytes for the case's entry. It keeps every rule.
+    pub fn draw_transfer(&mut self, random: &mut Random, count: usize, style: Style) {
+        self.transfer = match self.entry {
+            Entry::Data => draw::transfer(random, count, style),
+            Entry::Command => draw::command(random, count, style),
+        };
+    }
+
     /// Makes the steps of the transfer, with its string and ticks.
     pub fn lay_out(&mut self) {
         (self.pair, self.ticks) = self.transfer.lay_out();
@@ -49,6 +69,14 @@ impl Case {
     pub fn expect_by_the_rules(&mut self) {
         if check_pair(&self.pair, &self.string).is_ok() {
             self.expected = Expected::CompleteByTicks;
+        }
+    }
+
+    /// The finish tick of the transfer that was laid out: where its silence begins, or where ATN is released.
+    pub fn finish(&self) -> u32 {
+        match self.pair.kind {
+            Kind::Plain => self.pair.total - self.transfer.silence,
+            Kind::Command { finish } => finish,
         }
     }
 

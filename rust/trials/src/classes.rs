@@ -1,5 +1,7 @@
 //! The classes of cases, each in a file of its own.
 
+mod attention;
+mod crossed;
 mod damaged;
 mod extremes;
 mod handovers;
@@ -10,6 +12,7 @@ mod noise;
 mod written;
 
 use crate::case::Case;
+use crate::entry::Entry;
 use parties::Random;
 
 /// What a class draws.
@@ -29,8 +32,8 @@ pub struct Class {
     pub share: u32,
     /// What it draws.
     pub kind: Kind,
-    /// Draws a case, into one that was cleared.
-    pub draw: fn(&mut Random, &mut Case),
+    /// Draws a case, into one that is empty but for its entry.
+    draw: fn(&mut Random, &mut Case),
 }
 
 /// A class of recordings.
@@ -44,13 +47,15 @@ const fn recordings(name: &'static str, share: u32, draw: fn(&mut Random, &mut C
 }
 
 /// Every class. The shares add up to a thousand.
-pub const CLASSES: [Class; 8] = [
-    recordings("legal", 226, legal::draw),
+pub const CLASSES: [Class; 10] = [
+    recordings("legal", 200, legal::draw),
     recordings("many-bytes", 3, many_bytes::draw),
-    recordings("limits", 270, limits::draw),
-    recordings("handovers", 140, handovers::draw),
-    recordings("damaged", 200, damaged::draw),
-    recordings("noise", 130, noise::draw),
+    recordings("limits", 256, limits::draw),
+    recordings("handovers", 130, handovers::draw),
+    recordings("attention", 50, attention::draw),
+    recordings("crossed", 20, crossed::draw),
+    recordings("damaged", 190, damaged::draw),
+    recordings("noise", 120, noise::draw),
     recordings("extremes", 3, extremes::draw),
     Class {
         name: "written",
@@ -72,6 +77,16 @@ pub fn draw_class(random: &mut Random) -> usize {
     unreachable!("the shares add up to a thousand")
 }
 
+/// Draws a case of the class at that place: its entry first, each as often as the other.
+pub fn draw_case(random: &mut Random, class: usize) -> Case {
+    let mut case = Case {
+        entry: random.pick(&Entry::ALL),
+        ..Case::default()
+    };
+    (CLASSES[class].draw)(random, &mut case);
+    case
+}
+
 /// The place of the class of that name.
 pub fn named(name: &str) -> Option<usize> {
     CLASSES.iter().position(|class| class.name == name)
@@ -89,11 +104,10 @@ mod tests {
 
     #[test]
     fn a_seed_gives_the_same_case_again() {
-        for class in &CLASSES {
+        for (place, class) in CLASSES.iter().enumerate() {
             for seed in 0..20 {
-                let (mut once, mut again) = (Case::default(), Case::default());
-                (class.draw)(&mut Random::new(seed), &mut once);
-                (class.draw)(&mut Random::new(seed), &mut again);
+                let [once, again] = [0; 2].map(|_| draw_case(&mut Random::new(seed), place));
+                assert_eq!(once.entry, again.entry, "{} {seed}", class.name);
                 assert_eq!(once.file, again.file, "{} {seed}", class.name);
                 assert_eq!(once.string, again.string, "{} {seed}", class.name);
             }

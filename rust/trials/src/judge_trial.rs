@@ -1,12 +1,13 @@
-//! One recording judged through the border and by the other judge.
+//! One recording judged by the case's entry, through the border and by the other judge.
 
 use crate::case::{Case, Expected};
+use crate::entry::Entry;
 use crate::judge_memory::{JudgeMemory, Places};
 use crate::outcome::{same, same_answer, Outcome};
 use crate::place::check_place;
 use by_steps::Answer;
-use parties::{check_shown_pair, Random};
-use station::{Fault, Refusal, COMPLETE};
+use parties::{check_shown_command, check_shown_pair, Random};
+use station::{Fault, Refusal, BYTE_ROOM, COMPLETE, LEDGER_ROOM};
 use trials::name_of;
 
 /// The trial; its memory is used again for each case.
@@ -29,19 +30,20 @@ impl JudgeTrial {
     pub fn run(&mut self, random: &mut Random, case: &Case) -> Outcome {
         let memory = &mut self.memory;
         let places = memory.lend(random, &case.file);
-        let answer = trials::judge(
+        let answer = case.entry.judge()(
             memory.recording.part(places.recording),
             memory.bytes.part_mut(places.bytes),
             memory.ledger.part_mut(places.ledger),
         );
-        let other = by_steps::judge(
+        let other = case.entry.other_judge()(
             &case.file,
             memory.other_bytes.part_mut(places.bytes),
             memory.other_ledger.part_mut(places.ledger),
         );
         let wrong = same_answer(answer, other)
             .and_then(|()| self.memory.check(answer.count as usize, places, &case.file))
-            .and_then(|()| check_place(answer, &case.file))
+            .and_then(|()| check_entry(answer, case))
+            .and_then(|()| check_place(case.entry, answer, &case.file))
             .and_then(|()| self.check_shown(answer, places, case))
             .and_then(|()| self.check_expected(answer, places, case));
         Outcome {
@@ -58,7 +60,11 @@ impl JudgeTrial {
         }
         self.shown_pairs += 1;
         let (string, ledger) = self.memory.left(answer, places);
-        let checked = check_shown_pair(&case.file, string, ledger);
+        let check = match case.entry {
+            Entry::Data => check_shown_pair,
+            Entry::Command => check_shown_command,
+        };
+        let checked = check(&case.file, string, ledger);
         checked.map_err(|error| format!("the shown pair: {error}"))
     }
 
@@ -68,6 +74,10 @@ impl JudgeTrial {
             Expected::Nothing => return Ok(()),
             _ if !places.enough => Refusal::ShortBuffers.number(),
             Expected::Empty => Fault::EmptyStream.number(),
+            Expected::Fault { fault, tick } if tick == answer.tick => fault.number(),
+            Expected::Fault { tick, .. } => {
+                return Err(format!("it must be decided at tick {tick}"))
+            }
             Expected::Complete | Expected::CompleteByTicks => COMPLETE,
         };
         if answer.number != number {
@@ -87,6 +97,22 @@ impl JudgeTrial {
         }
         Ok(())
     }
+}
+
+/// The number is one that the entry may give, and no recording passes both entries.
+fn check_entry(answer: Answer, case: &Case) -> Result<(), String> {
+    if !case.entry.gives(answer.number) {
+        return Err("the entry has no such number".to_string());
+    }
+    if answer.number != COMPLETE {
+        return Ok(());
+    }
+    let judge = case.entry.other().judge();
+    let again = judge(&case.file, &mut [0; BYTE_ROOM], &mut [0; LEDGER_ROOM]);
+    if again.number == COMPLETE {
+        return Err("it passes both entries".to_string());
+    }
+    Ok(())
 }
 
 /// "every other pair that gives the recording has, at each of the two places of each byte, that tick or a later one".

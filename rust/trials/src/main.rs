@@ -1,8 +1,9 @@
 //! `differential [COUNT] [SEED]`, the trial of the border: the station's proved judge and writer, called as a program of the
-//! station calls them, against `by_steps`, another judge and writer made from the user's paper alone, and against the parties'
-//! own rules.
+//! station calls them, against `by_steps`, another judge and writer made from the user's papers alone, and against the
+//! parties' own rules.
 //!
-//! A *case* is one recording to judge or one string to write, drawn by a *class* from a seed of its own.
+//! A *case* is one recording to judge, by one of the judge's entries, or one string to write, drawn by a *class* from a seed of
+//! its own.
 
 #![forbid(unsafe_code)]
 
@@ -10,6 +11,7 @@ mod arguments;
 mod case;
 mod classes;
 mod edit;
+mod entry;
 mod judge_memory;
 mod judge_trial;
 mod lent;

@@ -21,7 +21,11 @@ pub struct Name {
 pub fn print(name: Name, case: &Case, what: &str, outcome: &Outcome) {
     let class = &CLASSES[name.class];
     let (ours, other) = (&outcome.answer, &outcome.other);
-    println!("differential --case {} {}: {what}", name.seed, class.name);
+    let entry = case.entry.name();
+    println!(
+        "differential --case {} {}: {what}, entry for {entry}",
+        name.seed, class.name
+    );
     if let Err(wrong) = &outcome.wrong {
         println!("  DIFFERENT: {wrong}");
     }

@@ -1,25 +1,56 @@
 //! How often each number came up, and what was different.
 
 use crate::classes::CLASSES;
-use station::Fault;
+use crate::entry::Entry;
+use station::{WriteRefusal, WRITTEN};
 use std::collections::HashMap;
 use trials::numbers;
 
 /// From how many cases on every number must have come up.
 const ENOUGH: u64 = 10_000;
 
-/// The numbers that only a command transfer can have: none is drawn here.
-const OF_COMMANDS: [Fault; 2] = [Fault::EndMarkUnderAttention, Fault::AttentionReleased];
+/// Who answered.
+#[derive(Clone, Copy, PartialEq, Eq)]
+enum By {
+    Entry(Entry),
+    Writer,
+}
+
+/// Everyone, in the order of the columns.
+const ALL: [By; 3] = [
+    By::Entry(Entry::Data),
+    By::Entry(Entry::Command),
+    By::Writer,
+];
+
+impl By {
+    fn name(self) -> &'static str {
+        match self {
+            By::Entry(entry) => entry.name(),
+            By::Writer => "written",
+        }
+    }
+
+    /// Whether this may be answered.
+    fn gives(self, number: u32) -> bool {
+        let writers = number == WRITTEN || WriteRefusal::try_from(number).is_ok();
+        match self {
+            By::Entry(entry) => !writers && entry.gives(number),
+            By::Writer => writers,
+        }
+    }
+}
 
 /// The counts of a run.
 #[derive(Default)]
 pub struct Tally {
-    numbers: HashMap<u32, u64>,
+    /// How often each number came up, by the columns.
+    numbers: HashMap<u32, [u64; ALL.len()]>,
     classes: [u64; CLASSES.len()],
-    judged: u64,
-    written: u64,
     /// How many shown pairs were held to the parties' rules.
     pub shown_pairs: u64,
+    /// How many command bytes have different classes.
+    pub classes_differ: u64,
     /// How many cases had a difference.
     pub differences: u64,
 }
@@ -30,35 +61,51 @@ impl Tally {
         self.classes[class] += 1;
     }
 
-    /// Counts an answer of the library's judge.
-    pub fn count_judged(&mut self, number: u32) {
-        self.judged += 1;
-        *self.numbers.entry(number).or_default() += 1;
+    /// Counts an answer of the library's judge by this entry.
+    pub fn count_judged(&mut self, entry: Entry, number: u32) {
+        self.count(By::Entry(entry), number);
     }
 
     /// Counts an answer of the library's writer.
     pub fn count_written(&mut self, number: u32) {
-        self.written += 1;
-        *self.numbers.entry(number).or_default() += 1;
+        self.count(By::Writer, number);
     }
 
-    fn times(&self, number: u32) -> u64 {
+    fn count(&mut self, by: By, number: u32) {
+        let times = self.numbers.entry(number).or_default();
+        for (place, one) in ALL.into_iter().enumerate() {
+            times[place] += u64::from(one == by);
+        }
+    }
+
+    /// How often a number came up, by the columns.
+    fn times(&self, number: u32) -> [u64; ALL.len()] {
         self.numbers.get(&number).copied().unwrap_or_default()
     }
 
-    /// The numbers that never came up.
-    fn missing(&self) -> Vec<(u32, &'static str)> {
-        let mut missing = numbers();
-        missing.retain(|(number, _)| self.times(*number) == 0);
-        missing.retain(|(number, _)| OF_COMMANDS.iter().all(|of| of.number() != *number));
+    /// The sum of each column.
+    fn totals(&self) -> [u64; ALL.len()] {
+        std::array::from_fn(|place| self.numbers.values().map(|times| times[place]).sum())
+    }
+
+    /// The numbers that never came up where they may, and where.
+    fn missing(&self) -> Vec<String> {
+        let mut missing = Vec::new();
+        for (number, name) in numbers() {
+            for (times, by) in self.times(number).into_iter().zip(ALL) {
+                if times == 0 && by.gives(number) {
+                    missing.push(format!("number {number} {name}, {}", by.name()));
+                }
+            }
+        }
         missing
     }
 
     /// Prints all of it; true if the run is a success.
     pub fn conclude(&self) -> bool {
         self.print_counts();
-        for (number, name) in self.missing() {
-            println!("number {number} {name} did not occur");
+        for number in self.missing() {
+            println!("{number}: did not occur");
         }
         let cases: u64 = self.classes.iter().sum();
         let too_few = cases >= ENOUGH && !self.missing().is_empty();
@@ -67,24 +114,29 @@ impl Tally {
         } else {
             ""
         };
+        let [data, commands, written] = self.totals();
+        let differences = self.differences + self.classes_differ;
         println!(
-            "{cases} cases compared: {} recordings judged, {} strings written; {} differences{note}",
-            self.judged, self.written, self.differences
+            "{cases} cases compared: {} recordings judged, {written} strings written; {differences} differences{note}",
+            data + commands
         );
-        self.differences == 0 && !too_few
+        differences == 0 && !too_few
     }
 
     fn print_counts(&self) {
-        let total = self.judged + self.written;
-        println!("number  name                       times    of all {total} answers");
+        let names = ALL.map(|by| format!("{:>9}", by.name())).concat();
+        println!("number  name                     {names}");
         for (number, name) in numbers() {
-            let times = self.times(number);
-            let share = 100.0 * times as f64 / total.max(1) as f64;
-            println!("{number:>6}  {name:<25}  {times:>7}  {share:>6.2} %");
+            let times = self.times(number).map(|times| format!("{times:>9}"));
+            println!("{number:>6}  {name:<25}{}", times.concat());
         }
         for (class, times) in CLASSES.iter().zip(self.classes) {
             println!("class {:<12} {times:>8} cases", class.name);
         }
+        println!(
+            "256 command bytes compared: {} have different classes",
+            self.classes_differ
+        );
         let pairs = self.shown_pairs;
         println!("{pairs} shown pairs held to the two parties' rules");
     }

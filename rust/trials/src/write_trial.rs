@@ -1,11 +1,12 @@
 //! One string written through the border and by the other writer. What is written is judged afterwards.
 
 use crate::case::{Case, Expected};
+use crate::entry::Entry;
 use crate::lent::{Lent, Pattern, Place};
 use crate::outcome::{same, same_answer, Outcome};
 use by_steps::Answer;
 use parties::Random;
-use station::WRITTEN;
+use station::{Fault, WRITTEN};
 
 /// The memory of the trial, used again for each case.
 pub struct WriteTrial {
@@ -41,10 +42,13 @@ impl WriteTrial {
         let wrong = same_answer(answer, other).and_then(|()| self.check(answer, from, to, case));
         if answer.number == WRITTEN && wrong.is_ok() {
             case.file = self.destination.part(to)[..answer.count as usize].to_vec();
-            case.expected = if case.string.is_empty() {
-                Expected::Empty
-            } else {
-                Expected::Complete
+            case.expected = match case.entry {
+                Entry::Data if case.string.is_empty() => Expected::Empty,
+                Entry::Data => Expected::Complete,
+                Entry::Command => Expected::Fault {
+                    fault: Fault::AttentionReleased,
+                    tick: 0,
+                },
             };
         }
         Outcome {

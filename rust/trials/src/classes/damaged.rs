@@ -1,13 +1,13 @@
 //! Legal recordings, damaged: in their steps, or in their file.
 
 use crate::case::Case;
-use parties::draw::{self, BRISK};
+use parties::draw::BRISK;
 use parties::{Random, Step};
 
 /// A legal pair of one to four bytes with one to three damages. Damage of the steps leaves the header right.
 pub fn draw(random: &mut Random, case: &mut Case) {
     let count = random.between(1, 4) as usize;
-    case.transfer = draw::transfer(random, count, BRISK);
+    case.draw_transfer(random, count, BRISK);
     case.lay_out();
     let damages = random.pick(&[1, 1, 1, 2, 3]);
     if random.one_in(3) {

@@ -34,15 +34,17 @@ fn pad(case: &mut Case, count: usize, duration: u16, lines: u8) {
 
 /// The beginning of a transfer that waits where there is no limit, over that many steps.
 fn fill_up(random: &mut Random, case: &mut Case, count: usize, duration: u16) {
-    let lines = random.pick(&[6, 4]);
+    let attention = case.entry.attention();
+    let lines = attention | random.pick(&[6, 4]);
     case.steps.push(Step {
         duration: 1,
-        lines: 6,
+        lines: attention | 6,
     });
     pad(case, count, duration, lines);
 }
 
-/// A legal transfer whose waits without a limit are longer than a step: hold, ready to send, and the silence at the end.
+/// A legal transfer whose waits without a limit are longer than a step: hold, ready to send, the last hold, and the silence at
+/// the end.
 fn long_waits(random: &mut Random, case: &mut Case) {
     legal::draw(random, case);
     let long = || u32::from(LONGEST);
@@ -53,6 +55,7 @@ fn long_waits(random: &mut Random, case: &mut Case) {
             _ => {}
         }
     }
+    case.transfer.last_hold += random.pick(&[0, 0, long()]);
     case.transfer.silence += random.pick(&[0, long(), 2 * long()]);
     case.lay_out();
 }
@@ -66,7 +69,7 @@ fn split_up(random: &mut Random, case: &mut Case) {
 /// Steps of the longest duration, of likely lines.
 fn longest_steps(random: &mut Random, case: &mut Case) {
     for _ in 0..random.between(1, 40) {
-        let lines = random.pick(&[6, 6, 6, 4, 4, 0, 2]);
+        let lines = case.entry.attention() | random.pick(&[6, 6, 6, 4, 4, 0, 2]);
         case.steps.push(Step {
             duration: LONGEST,
             lines,

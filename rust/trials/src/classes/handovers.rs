@@ -1,7 +1,7 @@
 //! Carried and open handovers at many offsets, legal and not.
 
 use crate::case::Case;
-use parties::draw::{self, BRISK};
+use parties::draw::BRISK;
 use parties::Random;
 
 /// The DATA line's bit.
@@ -11,7 +11,7 @@ const DATA: u8 = 4;
 /// a while DATA is turned over for some ticks inside a handover, or CLK, or both.
 pub fn draw(random: &mut Random, case: &mut Case) {
     let count = random.between(1, 3) as usize;
-    case.transfer = draw::transfer(random, count, BRISK);
+    case.draw_transfer(random, count, BRISK);
     let place = random.place(count);
     let byte = &mut case.transfer.bytes[place];
     if !random.one_in(8) {

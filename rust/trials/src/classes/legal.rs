@@ -1,7 +1,7 @@
 //! Random legal pairs of 1 to 20 bytes: the recording is complete with exactly the string.
 
 use crate::case::{Case, Expected};
-use parties::draw::{self, BRISK, WIDE};
+use parties::draw::{BRISK, WIDE};
 use parties::Random;
 
 /// A legal pair, as its recording.
@@ -13,7 +13,7 @@ pub fn draw(random: &mut Random, case: &mut Case) {
         24..=30 => (random.between(1, 2), WIDE),
         _ => (random.between(3, 6), WIDE),
     };
-    case.transfer = draw::transfer(random, count as usize, style);
+    case.draw_transfer(random, count as usize, style);
     put_legal(random, case);
 }
 

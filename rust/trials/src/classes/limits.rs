@@ -1,17 +1,19 @@
 //! Every limit at one below, at and one above, in a first and in a later byte.
 
 use crate::case::Case;
-use parties::draw::{self, BRISK};
-use parties::{Random, Step, Transfer};
+use crate::entry::Entry;
+use parties::draw::BRISK;
+use parties::{Ending, Random, Step, Transfer};
 
 /// A legal transfer with one span set to a limit or a tick or two beside it, and sometimes a tick of other lines nearby.
 pub fn draw(random: &mut Random, case: &mut Case) {
     let count = random.between(1, 3);
-    case.transfer = draw::transfer(random, count as usize, BRISK);
+    case.draw_transfer(random, count as usize, BRISK);
     let place = random.place(count as usize);
     match random.below(8) {
         0 => at_the_start_and_the_end(random, &mut case.transfer),
         1 => before_the_bits(random, &mut case.transfer, place),
+        2 | 3 if case.entry == Entry::Command => at_the_finish(random, &mut case.transfer),
         2 => at_the_end_mark(random, &mut case.transfer),
         3 => time_out(random, &mut case.transfer),
         4 | 5 => in_a_bit(random, &mut case.transfer, place),
@@ -20,12 +22,12 @@ pub fn draw(random: &mut Random, case: &mut Case) {
     case.lay_out();
     match random.below(12) {
         0 => {
-            let lines = random.between(0, 6) as u8;
+            let lines = random.below(8) as u8;
             case.steps.push(Step { duration: 1, lines });
         }
         1..=4 => {
             let tick = case.tick_by_a_change(random);
-            let mask = random.pick(&[2, 4, 4, 6]);
+            let mask = random.pick(&[1, 2, 4, 4, 6]);
             case.turn_over(tick, tick + 1, mask);
         }
         _ => case.expect_by_the_rules(),
@@ -36,9 +38,14 @@ pub fn draw(random: &mut Random, case: &mut Case) {
     case.put_file();
 }
 
-/// The first take, the last hold, the last letting go, and how far the recording goes on after it.
+/// The first take, the last hold, and of data the last letting go, and how far the recording goes on after it.
 fn at_the_start_and_the_end(random: &mut Random, transfer: &mut Transfer) {
-    match random.below(4) {
+    let spans = if transfer.ending == Ending::Plain {
+        4
+    } else {
+        2
+    };
+    match random.below(spans) {
         0 => transfer.first_take = random.pick(&[0, 1, 254, 255, 256, 257, 258]),
         1 => transfer.last_hold = random.pick(&[0, 1, 98, 99, 100, 101]),
         2 => transfer.last_ready_to_send = random.pick(&[0, 1, 2]),
@@ -69,6 +76,19 @@ fn at_the_end_mark(random: &mut Random, transfer: &mut Transfer) {
         }
         _ => transfer.after_acknowledgement = random.pick(&[0, 1, 2, 58, 59, 60, 61, 62]),
     }
+}
+
+/// The finish of commands: after the last take, and in a carried handover, whose take is at offset 1 at the earliest, after
+/// offset 0.
+fn at_the_finish(random: &mut Random, transfer: &mut Transfer) {
+    let last = transfer.bytes.len() - 1;
+    let byte = &mut transfer.bytes[last];
+    if random.one_in(2) {
+        byte.value |= 0x80;
+        byte.keep = random.between(1, 100);
+        byte.take = 1;
+    }
+    transfer.last_hold = random.pick(&[0, 1, 98, 99, 100, 101]);
 }
 
 /// CLK is pulled again around 512 ticks after ready for data began.

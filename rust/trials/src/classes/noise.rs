@@ -1,7 +1,7 @@
 //! Plain noise, from random bytes to steps that look like a transfer.
 
 use crate::case::Case;
-use parties::draw::{self, BRISK};
+use parties::draw::BRISK;
 use parties::{Random, Step};
 
 /// Durations about which something changes.
@@ -58,12 +58,14 @@ fn random_header(random: &mut Random, case: &mut Case) {
     }
 }
 
-/// Steps of likely lines and durations, after those that there are.
+/// Steps of likely lines and durations, after those that there are. ATN is mostly as the entry has it; where it is not, both
+/// CLK and DATA are often pulled, as at a finish.
 fn likely_steps(random: &mut Random, case: &mut Case, count: usize) {
     for _ in 0..count {
         let lines = match random.below(32) {
             0 => random.below(16) as u8,
-            _ => random.pick(&[0, 2, 4, 6]),
+            1 => 6 | case.entry.other().attention(),
+            _ => random.pick(&[0, 2, 4, 6]) | case.entry.attention(),
         };
         let duration = match random.below(4) {
             0 => random.between(1, 300) as u16,
@@ -76,7 +78,7 @@ fn likely_steps(random: &mut Random, case: &mut Case, count: usize) {
 /// A legal transfer up to some step, and noise from there on.
 fn begun_transfer(random: &mut Random, case: &mut Case) {
     let count = random.between(1, 2) as usize;
-    case.transfer = draw::transfer(random, count, BRISK);
+    case.draw_transfer(random, count, BRISK);
     case.lay_out();
     let kept = random.place(case.steps.len() + 1);
     case.steps.truncate(kept);
