@@ -1,4 +1,4 @@
-//! Both judges and both writers held to document 01's sample recordings, as they stand in samples/.
+//! Both judges and both writers held to the sample recordings, as they stand in samples/ and, of commands, in samples/commands/.
 
 use by_steps::Answer;
 use parties::{file_of, Step, LONGEST, MOST_STEPS};
@@ -9,10 +9,13 @@ use trials::name_of;
 type Judge = fn(&[u8], &mut [u8], &mut [u32]) -> Answer;
 
 const JUDGES: [Judge; 2] = [trials::judge, by_steps::judge];
+const COMMAND_JUDGES: [Judge; 2] = [trials::judge_command, by_steps::judge_command];
 
-/// The samples' names and bytes, by their names.
-fn samples() -> Vec<(String, Vec<u8>)> {
-    let folder = Path::new(env!("CARGO_MANIFEST_DIR")).join("../../samples");
+/// The names and bytes of a folder's samples, by their names.
+fn samples(folder: &str) -> Vec<(String, Vec<u8>)> {
+    let folder = Path::new(env!("CARGO_MANIFEST_DIR"))
+        .join("../..")
+        .join(folder);
     let files = std::fs::read_dir(folder)
         .unwrap()
         .map(|entry| entry.unwrap());
@@ -25,7 +28,7 @@ fn samples() -> Vec<(String, Vec<u8>)> {
     samples
 }
 
-/// A judgement as bin/judge prints it. No place beyond the count may have changed.
+/// A judgement as bin/judge prints it, but for the classes. No place beyond the count may have changed.
 fn judged(judge: Judge, name: &str, file: &[u8]) -> String {
     let (mut bytes, mut ledger) = ([0xA5; 1000], [7; 2000]);
     let Answer {
@@ -39,7 +42,7 @@ fn judged(judge: Judge, name: &str, file: &[u8]) -> String {
     assert!(kept.iter().all(|place| *place == 0xA5), "{name}");
     assert!(kept_ticks.iter().all(|place| *place == 7), "{name}");
     let mut text = format!(
-        "{number} {tick} {step} {count} {} samples/{name}\n",
+        "{number} {tick} {step} {count} {} {name}\n",
         name_of(number)
     );
     if count > 0 {
@@ -50,15 +53,28 @@ fn judged(judge: Judge, name: &str, file: &[u8]) -> String {
     text
 }
 
-#[test]
-fn every_sample_has_its_stored_answer() {
-    for judge in JUDGES {
-        let each = samples()
+/// Each of the folder's samples has its stored answer, by each judge.
+fn have_their_stored_answers(folder: &str, judges: [Judge; 2], stored: &str) {
+    for judge in judges {
+        let each = samples(folder)
             .into_iter()
-            .map(|(name, file)| judged(judge, &name, &file));
-        let stored = include_str!("../../../samples/answers.txt");
+            .map(|(name, file)| judged(judge, &format!("{folder}/{name}"), &file));
         assert_eq!(each.collect::<String>(), stored);
     }
+}
+
+#[test]
+fn every_sample_has_its_stored_answer() {
+    let stored = include_str!("../../../samples/answers.txt");
+    have_their_stored_answers("samples", JUDGES, stored);
+}
+
+#[test]
+fn every_sample_of_commands_has_its_stored_answer() {
+    let stored = include_str!("../../../samples/commands/answers.txt");
+    let lines = stored.split_inclusive('\n');
+    let without_classes: String = lines.filter(|line| !line.starts_with("classes ")).collect();
+    have_their_stored_answers("samples/commands", COMMAND_JUDGES, &without_classes);
 }
 
 #[test]
