@@ -1,5 +1,7 @@
 //! The shown pair of S1 and of a carried handover, and what is found when ledger, string or recording are tampered with.
 
+mod windows;
+
 use parties::{check_shown_pair, file_of, steps_of, ticks_of, Card, Step};
 
 /// Document 01, "Sample recordings": S1, of the byte 0x41.
@@ -110,17 +112,7 @@ fn each_duration_is_held_to_its_window() {
         (23, 1, 65_535),
         (24, 1, 65_535),
     ];
-    for (place, least, most) in windows {
-        for kept in [least, least + 1, most - 1, most] {
-            assert_eq!(with_duration(place, kept), Ok(()), "step {place}: {kept}");
-        }
-        for broken in [least - 1, most.wrapping_add(1)] {
-            assert!(
-                with_duration(place, broken).is_err(),
-                "step {place}: {broken}"
-            );
-        }
-    }
+    windows::are_held(&windows, with_duration);
 }
 
 #[test]

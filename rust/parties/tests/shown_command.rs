@@ -1,6 +1,8 @@
 //! The shown pair of two command recordings written by hand, and what is found when recording, ledger or string are
 //! tampered with.
 
+mod windows;
+
 use parties::{check_shown_command, check_shown_pair, file_of, ticks_of, Card, Random, Step};
 
 const ATTENTION: u8 = 1;
@@ -217,17 +219,7 @@ fn each_duration_is_held_to_its_window() {
         (21, 1, 65_535),
         (22, 1, 65_535),
     ];
-    for (place, least, most) in windows {
-        for kept in [least, least + 1, most - 1, most] {
-            assert_eq!(with_duration(place, kept), Ok(()), "step {place}: {kept}");
-        }
-        for broken in [least - 1, most.wrapping_add(1)] {
-            assert!(
-                with_duration(place, broken).is_err(),
-                "step {place}: {broken}"
-            );
-        }
-    }
+    windows::are_held(&windows, with_duration);
 }
 
 #[test]
