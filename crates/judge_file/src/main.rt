@@ -6,8 +6,8 @@
 //     classes listen secondary ..           where COUNT is above 0, of a command transfer
 //     end
 //
-// Its first argument says what is recorded, `data` or `command`; the second names the file, and without it that is standard input. A program
-// here has no exit status, so the last line says that all of the answer was printed: without it nothing was answered.
+// Its first argument says what is recorded, `data` or `command`; the second names the file, and without it that is standard input. A
+// program here has no exit status, so the last line says that all of the answer was printed: without it nothing was answered.
 mod handed;
 
 use crate::handed::Transfer;

@@ -132,8 +132,8 @@ commandReadings =
     -- After the finish a pull of ATN is 37, whatever the others show, and the last byte is counted.
     ∷ reads (listen 200 ++ (1 ∶ 6 ∷ 1 ∶ 7 ∷ [])) 37 2961 2
     ∷ reads (listen 200 ++ (1 ∶ 6 ∷ 9 ∶ 0 ∷ 1 ∶ 1 ∷ [])) 37 2970 2
-    -- ATN released elsewhere is 39, before the phase's rows: in A, where tick 0 would be 25 and 256 would be 24; in B before any byte; in C;
-    -- in D at 199, where it would be 38; in a bit, where it would be 33; in an open handover, where it would be 35.
+    -- ATN released elsewhere is 39, before the phase's rows: in A, where tick 0 would be 25 and 256 would be 24; in B before any byte;
+    -- in C; in D at 199, where it would be 38; in a bit, where it would be 33; in an open handover, where it would be 35.
     ∷ reads (1 ∶ 0 ∷ []) 39 0 0
     ∷ reads (attended (256 ∶ 2 ∷ []) ++ (1 ∶ 2 ∷ [])) 39 256 0
     ∷ reads (attended (200 ∶ 6 ∷ []) ++ (1 ∶ 6 ∷ [])) 39 200 0

@@ -235,7 +235,8 @@ module _ (L : Limits) where
         by-shape l js e (inl h) = record { js = clockKept ∷ js; gives = ap (λ x. goingOn L true true ∷ x) e; shape = inl (stay h) }
         by-shape l js e (inr h) = record { js = clockHeld ∷ js; gives = ap (λ x. goingOn L true true ∷ x) e; shape = inr (stay h) }
 
-        on : (l : List Byte) → From (Carried end-mark value s) (suc now) w l → From (Carried end-mark value s) now (goingOn L true true ∷ w) l
+        on : (l : List Byte) → From (Carried end-mark value s) (suc now) w l
+            → From (Carried end-mark value s) now (goingOn L true true ∷ w) l
         on l r = by-shape l (r .js) (r .gives) (r .shape)
     row-carried end-mark value s true false now w ih i =
         if-upTo _ _ _ _ _ _ _
