@@ -11,7 +11,7 @@
 #include <stdint.h>
 
 /* The version of the whole: header, library, commands and Rust crate. */
-#define STATION_VERSION "0.3.0"
+#define STATION_VERSION "0.4.0"
 
 #ifdef __cplusplus
 extern "C" {
@@ -57,7 +57,13 @@ enum station_number {
     /* the writer's answers; none of them says anything about a transfer */
     STATION_WRITTEN = 0,            /* the recording was written */
     STATION_TOO_MANY_BYTES = 10,    /* refused: more than STATION_MOST_BYTES bytes */
-    STATION_SHORT_DESTINATION = 11  /* refused: a destination shorter than STATION_WRITTEN_LENGTH of the bytes given */
+    STATION_SHORT_DESTINATION = 11, /* refused: a destination shorter than STATION_WRITTEN_LENGTH of the bytes given */
+
+    /* refusals of the tray: what the command tray prints. No function of this library answers them; station_name names them */
+    STATION_NO_SUCH_SEAT = 13,   /* seat 40 or above */
+    STATION_VACANT_SEAT = 14,    /* posting to or removing from a vacant seat */
+    STATION_SEAT_IN_USE = 15,    /* loading a seat in use */
+    STATION_NOT_FORTY_SEATS = 16 /* the tray is not forty seats long */
 };
 
 /* The room that the judge must be lent: places of the byte buffer and of the ledger. */

@@ -7,13 +7,14 @@ use Rattle.answer.specs.Types.{Refusal, ShortFile, WrongVersion, TooMany
 use Rattle.answer.specs.Types.{WrongTotal, ShortBuffers, TooManyBytes, ShortDestination, Fault, EmptyStream, Attention, NoReceiver}
 use Rattle.answer.specs.Types.{BadStart, OutOfTurn, EndMarkNotAcknowledged, AcknowledgementShort, AcknowledgementLong, LateClock}
 use Rattle.answer.specs.Types.{SenderTimeout, ValidTimeShort, DataMoved, ClockStall, ReceiverTimeout, Hurried, MovedAfterEnd}
-use Rattle.answer.specs.Types.{EndMarkUnderAttention, AttentionReleased, Verdict, Complete, Cut, Broken}
+use Rattle.answer.specs.Types.{EndMarkUnderAttention, AttentionReleased, Verdict, Complete, Cut, Broken, NoSuchSeat, VacantSeat}
+use Rattle.answer.specs.Types.{SeatInUse, NotFortySeats}
 
 -- Four kinds of numbers, told by a test that computes: a new number is one line of a list below.
 abbrev refusals : List Refusal
 refusals =
     ShortFile ∷ WrongVersion ∷ TooManySteps ∷ WrongOffset ∷ WrongLength ∷ ZeroDuration ∷ StrayBits ∷ WrongTotal
-    ∷ ShortBuffers ∷ TooManyBytes ∷ ShortDestination ∷ []
+    ∷ ShortBuffers ∷ TooManyBytes ∷ ShortDestination ∷ NoSuchSeat ∷ VacantSeat ∷ SeatInUse ∷ NotFortySeats ∷ []
 
 abbrev among : ℕ → List Refusal → Bool
 among n [] = false
@@ -64,6 +65,10 @@ refusal-kind WrongTotal = refl
 refusal-kind ShortBuffers = refl
 refusal-kind TooManyBytes = refl
 refusal-kind ShortDestination = refl
+refusal-kind NoSuchSeat = refl
+refusal-kind VacantSeat = refl
+refusal-kind SeatInUse = refl
+refusal-kind NotFortySeats = refl
 
 is-kind : (v : Verdict) (n : ℕ) → verdictNumber v ≡ n → kind v ≡ kindOf n
 is-kind v n e = sym (verdict-kind v) ∙ ap kindOf e

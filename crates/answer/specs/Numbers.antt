@@ -4,7 +4,7 @@ use Rattle.answer.specs.Types.{Refusal, ShortFile, WrongVersion, TooMany
 use Rattle.answer.specs.Types.{WrongTotal, ShortBuffers, TooManyBytes, ShortDestination, EmptyStream, Attention, NoReceiver, BadStart}
 use Rattle.answer.specs.Types.{OutOfTurn, EndMarkNotAcknowledged, AcknowledgementShort, AcknowledgementLong, LateClock, SenderTimeout}
 use Rattle.answer.specs.Types.{ValidTimeShort, DataMoved, ClockStall, ReceiverTimeout, Hurried, MovedAfterEnd, EndMarkUnderAttention}
-use Rattle.answer.specs.Types.{AttentionReleased, Verdict, Complete, Cut, Broken}
+use Rattle.answer.specs.Types.{AttentionReleased, Verdict, Complete, Cut, Broken, NoSuchSeat, VacantSeat, SeatInUse, NotFortySeats}
 
 -- "Refusals"; the definitions that give them say when.
 abbrev pub refusalNumber : Refusal → ℕ
@@ -19,6 +19,11 @@ refusalNumber WrongTotal = 8  -- "total ticks wrong"
 refusalNumber ShortBuffers = 9  -- "byte buffer under 1,000 places, or ledger under 2,000"
 refusalNumber TooManyBytes = 10  -- "writer: more than 799 bytes"
 refusalNumber ShortDestination = 11  -- "writer: destination under 80n+36 bytes, n the number of bytes given"
+-- #102, of the tray
+refusalNumber NoSuchSeat = 13  -- "seat 40 or above"
+refusalNumber VacantSeat = 14  -- "posting to or removing from a vacant seat"
+refusalNumber SeatInUse = 15  -- "loading a seat in use"
+refusalNumber NotFortySeats = 16  -- "the list isn't forty long"
 
 -- "Verdicts: 20 complete, 21 empty stream, 22 cut, 23 attention, .."
 abbrev pub verdictNumber : Verdict → ℕ

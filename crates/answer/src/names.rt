@@ -34,10 +34,10 @@ const WORDS: [u8; ROWS * Name::WIDTH] = *b"\
     too-many-bytes           \
     short-destination        \
     no-such-number           \
-    no-such-number           \
-    no-such-number           \
-    no-such-number           \
-    no-such-number           \
+    no-such-seat             \
+    vacant-seat              \
+    seat-in-use              \
+    not-forty-seats          \
     no-such-number           \
     no-such-number           \
     no-such-number           \

@@ -1,4 +1,4 @@
-// The refusals of every entry, in the order of document 01's table, and their numbers.
+// The refusals of every entry, in the order of document 01's table and of document 02's requests, and their numbers.
 ghost use Rattle.answer.specs.Basics.{_≡_};
 ghost use Rattle.answer.specs.Numbers.{refusalNumber};
 
@@ -14,6 +14,10 @@ pub enum Refusal {
     ShortBuffers,
     TooManyBytes,
     ShortDestination,
+    NoSuchSeat,
+    VacantSeat,
+    SeatInUse,
+    NotFortySeats,
 }
 
 impl Refusal {
@@ -32,6 +36,10 @@ impl Refusal {
             Refusal::ShortBuffers => 9,
             Refusal::TooManyBytes => 10,
             Refusal::ShortDestination => 11,
+            Refusal::NoSuchSeat => 13,
+            Refusal::VacantSeat => 14,
+            Refusal::SeatInUse => 15,
+            Refusal::NotFortySeats => 16,
         }
     }
 }

@@ -72,7 +72,7 @@ pub use command_transfer::CommandTransfer;
 pub use handovers::{Handover, Handovers};
 pub use judge::{judge, judge_command};
 pub use judge_error::JudgeError;
-pub use numbers::{Fault, Refusal, WriteRefusal, COMPLETE, WRITTEN};
+pub use numbers::{Fault, Refusal, TrayRefusal, WriteRefusal, COMPLETE, WRITTEN};
 #[cfg(feature = "std")]
 pub use owned::{write_to_vec, Judge};
 pub use room::{written_length, BYTE_ROOM, LEDGER_ROOM, LONGEST_RECORDING, MOST_BYTES};

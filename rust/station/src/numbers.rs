@@ -69,6 +69,15 @@ numbers! {
         TooManyBytes = 10 "too-many-bytes": "more than 799 bytes",
         ShortDestination = 11 "short-destination": "too little memory was lent",
     }
+
+    /// Why the tray refused a call: what the command `tray` prints. No function of this library gives one.
+    #[non_exhaustive]
+    "refusal of the tray" TrayRefusal {
+        NoSuchSeat = 13 "no-such-seat": "seat 40 or above",
+        VacantSeat = 14 "vacant-seat": "posting to or removing from a vacant seat",
+        SeatInUse = 15 "seat-in-use": "loading a seat in use",
+        NotFortySeats = 16 "not-forty-seats": "the tray is not forty seats long",
+    }
 }
 
 impl core::error::Error for WriteRefusal {}

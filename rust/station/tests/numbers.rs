@@ -1,6 +1,7 @@
 //! The numbers: by value, by name, in words, and as the repository's table has them.
 
-use station::{CommandClass, Fault, Refusal, UnknownNumber, WriteRefusal, COMPLETE, WRITTEN};
+use station::{CommandClass, Fault, Refusal, TrayRefusal, UnknownNumber, WriteRefusal};
+use station::{COMPLETE, WRITTEN};
 use std::fmt::{Debug, Display};
 use std::str::FromStr;
 
@@ -35,6 +36,8 @@ fn the_numbers_are_those_of_the_table() {
     );
     let by_the_writer = |one: &WriteRefusal| (one.number(), one.name(), "refused by the writer");
     all.extend(WriteRefusal::ALL.iter().map(by_the_writer));
+    let by_the_tray = |one: &TrayRefusal| (one.number(), one.name(), "refused by the tray");
+    all.extend(TrayRefusal::ALL.iter().map(by_the_tray));
     all.sort();
     assert_eq!(all, rows());
 }
@@ -71,6 +74,11 @@ fn a_number_is_found_by_its_value_and_its_name() {
         WriteRefusal::ALL,
         "refusal of the writer",
         WriteRefusal::number,
+    );
+    find(
+        TrayRefusal::ALL,
+        "refusal of the tray",
+        TrayRefusal::number,
     );
     find(
         CommandClass::ALL,
