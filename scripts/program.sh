@@ -6,7 +6,7 @@ command=$(basename "$0")
 root=$(cd "$(dirname "$(readlink -f "$0")")/.." && pwd) || exit 2
 ready=$root/target/ready
 # All commands; each stands on the program of its name with _file after it.
-commands="judge write vcd"
+commands="judge write vcd tray"
 newline='
 '
 
@@ -84,10 +84,16 @@ is_whole() {
     esac
 }
 
-# Whether the text's first line is an answer's: a number, a tick, a step, a count and a name, which are then in variables of these names,
-# and what follows in `file`. Nothing but 20 is called complete.
-is_answer() {
-    file=${text%%"$newline"*}
+# What is said where it is not whole.
+not_whole() { echo "the program gave no whole answer (its status was $status)"; }
+
+# Whether the text's first line is an answer's: see `is_answer_line`.
+is_answer() { is_answer_line "${text%%"$newline"*}"; }
+
+# Whether a line is an answer's: a number, a tick, a step, a count and a name, which are then in variables of these names, and what follows
+# in `file`. Nothing but 20 is called complete.
+is_answer_line() {
+    file=$1
     number=${file%% *} file=${file#* }
     tick=${file%% *} file=${file#* }
     step=${file%% *} file=${file#* }

@@ -103,7 +103,7 @@ module _ {M : Type 1} (𝓤 : URA M) (H : Heap 𝓤) (A : Atoms 𝓤) (W : Given
 
 module _ {M : Type 1} (𝓤 : URA M) (H : Heap 𝓤) (A : Atoms 𝓤) (k : Call) where
   -- what the function ensures
-  abbrev clauses : Clauses 𝓤 f.ended
+  abbrev pub clauses : Clauses 𝓤 f.ended
   clauses = λ κs a. record {
     ghost = Unit {0};
     requires = λ g. emp 𝓤;

@@ -1,4 +1,5 @@
--- `begins_with` meets its contract: where the loop stands, the rest of the buffer begins with the rest of the expected bytes exactly if the whole does.
+-- `begins_with` meets its contract: where the loop stands, the rest of the buffer begins with the rest of the expected bytes exactly if the
+-- whole does.
 -- Assumes nothing.
 use borrow.Author.Needs.{needs}
 use native.Mathlib.Omega.{arith}
@@ -49,7 +50,9 @@ loop-again c =
     let round = c .before .before .before in
     record {
       within = omega (arith, round .before .loop-test .taken);
-      left = sym (begins-more _ _ _ (round .if1 .left) (round .before .loop-test .taken) (c .if2 .left)) ∙ round .before .before .loop .inv .left;
+      left =
+          sym (begins-more _ _ _ (round .if1 .left) (round .before .loop-test .taken) (c .if2 .left))
+          ∙ round .before .before .loop .inv .left;
     }
 
 returns-3 : tie.Need-returns-3 Inv-loop μ-loop

@@ -1,0 +1,32 @@
+-- The text of a tray's state file: a heading, and a line for each seat in order.
+use Prim.Native.Char.{code}
+use Prim.Native.String.{String}
+use Rattle.answer.specs.Basics.{ℕ, suc, _+_, _/_, _%_, List, [], _∷_, _++_}
+use Rattle.answer.specs.Text.{ascii, space}
+use Rattle.tray.specs.Types.{SeatState, Vacant, Unjudged, Passed, Failed, Seat}
+
+abbrev pub newline : ℕ
+newline = code "\n"
+
+-- The digit of a number below ten.
+abbrev pub digit : ℕ → ℕ
+digit n = code "0" + n
+
+-- A state's word, to the right in eight characters.
+abbrev pub stateWord : SeatState → String
+stateWord Vacant = "  vacant"
+stateWord Unjudged = "unjudged"
+stateWord Passed = "  passed"
+stateWord Failed = "  failed"
+
+-- A seat's line: its number in two digits, a space, its state, and the line's end.
+unfoldable pub seatLine : (number : ℕ) → Seat → List ℕ
+seatLine number seat = digit (number / 10) ∷ digit (number % 10) ∷ space ∷ (ascii (stateWord (seat .state)) ++ (newline ∷ []))
+
+-- The lines of seats, of which the first has this number.
+unfoldable pub linesFrom : (number : ℕ) → List Seat → List ℕ
+linesFrom number [] = []
+linesFrom number (seat ∷ seats) = seatLine number seat ++ linesFrom (suc number) seats
+
+unfoldable pub stateText : List Seat → List ℕ
+stateText seats = ascii "station tray" ++ (newline ∷ linesFrom 0 seats)
