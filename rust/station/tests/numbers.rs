@@ -75,11 +75,7 @@ fn a_number_is_found_by_its_value_and_its_name() {
         "refusal of the writer",
         WriteRefusal::number,
     );
-    find(
-        TrayRefusal::ALL,
-        "refusal of the tray",
-        TrayRefusal::number,
-    );
+    find(TrayRefusal::ALL, "refusal of the tray", TrayRefusal::number);
     find(
         CommandClass::ALL,
         "class of command bytes",
