@@ -72,12 +72,14 @@ fn post_judged(
     if !keep(after, state) {
         return print_failure(b"unwritable", state);
     }
+    // a post that is accepted is one to a seat of the tray
     if number < SEATS {
         return print_posted(after[number], seat, state, answer, recording);
     }
     false
 }
 
+// A post leaves its seat passed or failed.
 fn print_posted(seat: Seat, number: &[u8], state: &[u8], answer: Answer, recording: &[u8]) -> bool {
     let kept = seat.state;
     match kept {

@@ -2,7 +2,6 @@
 use borrow.Author.Needs.{needs}
 use Rattle.answer.specs.Basics.{ℕ}
 use mathlib.Core.Path.{ap}
-use Rattle.tray.specs.Types.{Changed}
 use Rattle.tray.proofs.seat.Seat.refused.Statement.{statement}
 use Rattle.tray.proofs.seat.Seat.refused.Tie as tie
 
