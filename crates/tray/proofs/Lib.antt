@@ -10,4 +10,5 @@ pub mod SealingLaws
 pub mod NeverPasses
 pub mod History
 pub mod Joined
+pub mod Samples
 pub mod Forwarding

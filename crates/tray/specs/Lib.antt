@@ -8,3 +8,4 @@ pub mod Sealing
 pub mod History
 pub mod Facts
 pub mod Joined
+pub mod Samples
