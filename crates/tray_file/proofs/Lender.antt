@@ -48,10 +48,11 @@ use denote.Triple.Walked.{says, Stays, stay-dropped, walkOf, goes-dropped, Walks
 use denote.Exit.{yes}
 use Rattle.tray.specs.{Types.Seat, Types.Call, Tray.leaves, Tray.called}
 use Rattle.tray.proofs.Forwarding.{clauses as asked, spec as asked-spec}
+use Rattle.tray.proofs.Values.{head}
 use Rattle.tray.proofs.seat.Seat as S
 use Rattle.tray.proofs.seat.Seat.Laws as S′
 use Rattle.tray.proofs.load as lent
-use Rattle.tray_file.proofs.Lent.{Forty, forty, head, machine, room, slice, pointer, kept, handed, is-kept, apart, whole}
+use Rattle.tray_file.proofs.Lent.{Forty, forty, machine, room, slice, pointer, kept, handed, is-kept, apart, whole}
 use Rattle.tray_file.proofs.lending.Kept as K
 use Rattle.tray_file.proofs.lending.Kept.Laws as K′
 use Rattle.tray_file.proofs.lending.loaded as f

@@ -40,6 +40,7 @@ use denote.Triple.Table.{entered, cited}
 use denote.Triple.Walked.{says, Stays, stay-dropped, walkOf, goes-dropped, Walks, ends-at, walked, walk-meets}
 use denote.Exit.{yes}
 use Rattle.tray.specs.{Types.Seat, Types.Counts, Counts.countsOf, Sealing.sealing, Sealing.sealingBy}
+use Rattle.tray.proofs.Values.{head}
 use Rattle.tray.proofs.SealingLaws.{sealing-by-counts}
 use Rattle.tray.proofs.seat.Seat as S
 use Rattle.tray.proofs.counts.Counts as K
@@ -59,11 +60,6 @@ use Rattle.tray.proofs.sealing.seal.Code as code
 
 abbrev stayed : Stays (f.ended .signature .params) (f.ended .kept)
 stayed = (stay-dropped (shrSliceOf (0 ∷ []) tt (plain (λ _. S.the-row))) yes, tt)
-
--- the first of a list of machine values
-abbrev head : List Val → Val
-head [] = vint w8 0
-head (v ∷ vs) = v
 
 module _ {M : Type 1} (𝓤 : URA M) (H : Heap 𝓤) (A : Atoms 𝓤) (mem : Memory → SProp 𝓤) (run : Routine → Fun 𝓤) where
   -- the contracts that the proof cites

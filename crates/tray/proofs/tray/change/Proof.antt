@@ -50,6 +50,7 @@ use denote.Triple.Walked.{says, Stays, stay-slice, stay-none, walkOf, goes-slice
 use denote.Exit.{yes}
 use Rattle.tray.specs.Types.{Seat, Call, Changed}
 use Rattle.tray.specs.{Seats.changed, Tray.vacantSeat, Tray.seatAt, Tray.leaves, Tray.outside, Tray.changedAt}
+use Rattle.tray.proofs.Values.{head}
 use Rattle.tray.proofs.CalledLaws.{is-inside, called-inside, called-outside}
 use Rattle.tray.proofs.seat.Seat as S
 use Rattle.tray.proofs.seat.Seat.Laws as S′
@@ -72,11 +73,6 @@ use Rattle.tray.proofs.tray.change.Code as code
 
 abbrev stayed : Stays (f.ended .signature .params) (f.ended .kept)
 stayed = (stay-slice (0 ∷ []) tt (plain (λ _. S.the-row)), (stay-none (λ _. usize) yes, (stay-none (λ _. E.the-row) yes, tt)))
-
--- the first of a list of machine values
-abbrev head : List Val → Val
-head [] = vint w8 0
-head (v ∷ vs) = v
 
 nonzero : (r : ℕ) → T (not (eqb r 0)) → r ≡ 0 → ⊥
 nonzero r nay e = subst (λ (n : ℕ). T (not (eqb n 0))) e nay

@@ -48,6 +48,7 @@ use Rattle.answer.specs.Types.{Answer}
 use Rattle.answer.proofs.Answer as N
 use Rattle.answer.proofs.Answer.Laws as N′
 use Rattle.tray.specs.{Types.Seat, Types.Post, Passing.passing, Tray.leaves, Tray.called}
+use Rattle.tray.proofs.Values.{head}
 use Rattle.tray.proofs.Forwarding.{Change, to-change, goes}
 use Rattle.tray.proofs.seat.Seat as S
 use Rattle.tray.proofs.seat.Call as E
@@ -76,11 +77,6 @@ stayed = (
     ),
   ),
 )
-
--- the first of a list of machine values
-abbrev head : List Val → Val
-head [] = vint w8 0
-head (v ∷ vs) = v
 
 -- a post's machine value
 abbrev posted : Bool → Val

@@ -51,6 +51,7 @@ use denote.Exit.{yes}
 use Rattle.tray.specs.{Types.Seat, Types.Counts, Counts.countsOf, Sealing.sealing}
 use Rattle.tray.proofs.counts.Counts as N
 use Rattle.tray.proofs.counts.Counts.Laws as N′
+use Rattle.tray.proofs.Values.{head}
 use Rattle.tray.proofs.seat.Seat as S
 use Rattle.tray.proofs.seat.Seat.Laws as S′
 use Rattle.tray.proofs.seal as seal
@@ -61,7 +62,7 @@ use Rattle.tray.proofs.count as count
 use Rattle.tray.proofs.count.Symbol as count-def
 use Rattle.tray.proofs.count.Symbol.{name as #count}
 use Rattle.tray.proofs.count.Met as count-thm
-use Rattle.tray_file.proofs.Lent.{Forty, forty, head, machine, room, slice, pointer, apart, whole}
+use Rattle.tray_file.proofs.Lent.{Forty, forty, machine, room, slice, pointer, apart, whole}
 use Rattle.tray_file.specs.declared.lending.Look.{Look}
 use Rattle.tray_file.proofs.lending.Look as K
 use Rattle.tray_file.proofs.lending.Look.Laws as K′

@@ -51,13 +51,14 @@ use Rattle.answer.specs.Types.{Answer}
 use Rattle.answer.proofs.Answer as N
 use Rattle.answer.proofs.Answer.Laws as N′
 use Rattle.tray.specs.{Types.Seat, Types.Post, Passing.passing, Tray.leaves, Tray.called}
+use Rattle.tray.proofs.Values.{head}
 use Rattle.tray.proofs.seat.Seat as S
 use Rattle.tray.proofs.seat.Seat.Laws as S′
 use Rattle.tray.proofs.post as lent
 use Rattle.tray.proofs.post.Symbol as lent-def
 use Rattle.tray.proofs.post.Symbol.{name as #post}
 use Rattle.tray.proofs.post.Met as lent-thm
-use Rattle.tray_file.proofs.Lent.{Forty, forty, head, machine, room, slice, pointer, kept, handed, is-kept, apart, whole}
+use Rattle.tray_file.proofs.Lent.{Forty, forty, machine, room, slice, pointer, kept, handed, is-kept, apart, whole}
 use Rattle.tray_file.proofs.lending.Kept as K
 use Rattle.tray_file.proofs.lending.Kept.Laws as K′
 use Rattle.tray_file.proofs.lending.posted.Key.{name as #posted}
