@@ -2,12 +2,12 @@
 use Rattle.answer.specs.Basics.{ℕ, zero, suc, _+_, _*_, List, length, _≡_}
 use Rattle.answer.specs.Answers.{first}
 use Rattle.tray.specs.{Types.Seat, Tray.seats as forty}
-use Rattle.tray_file.specs.{State.stateText, declared.reading.Read.Read}
+use Rattle.tray_file.specs.{State.headingLength, State.lineLength, State.stateText, declared.reading.Read.Read}
 
--- How many bytes the first lines have, so many of them: the heading is 13 bytes long with its end, a seat's line 12.
+-- How many bytes the first lines have, so many of them.
 abbrev pub bytesIn : (lines : ℕ) → ℕ
 bytesIn zero = 0
-bytesIn (suc lines) = 13 + 12 * lines
+bytesIn (suc lines) = headingLength + lineLength * lines
 
 -- The file begins with so many lines of the state file of these seats.
 abbrev pub BeginsAs : (lines : ℕ) (file : List ℕ) → List Seat → Type 0

@@ -28,5 +28,15 @@ unfoldable pub linesFrom : (number : ℕ) → List Seat → List ℕ
 linesFrom number [] = []
 linesFrom number (seat ∷ seats) = seatLine number seat ++ linesFrom (suc number) seats
 
+-- How many bytes the heading has, a seat's line, and all of the text of forty seats, each with its line ends.
+abbrev pub headingLength : ℕ
+headingLength = 13
+
+abbrev pub lineLength : ℕ
+lineLength = 12
+
+abbrev pub textLength : ℕ
+textLength = 493
+
 unfoldable pub stateText : List Seat → List ℕ
 stateText seats = ascii "station tray" ++ (newline ∷ linesFrom 0 seats)

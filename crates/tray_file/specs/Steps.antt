@@ -3,10 +3,11 @@ use Prim.Native.Char.{code}
 use Rattle.answer.specs.Basics.{ℕ, _+_, _-_, _*_, _/_, _≤_, _<_, List, length, getD, eqb, ltb, _≡_, if_then_else_}
 use Rattle.tray.specs.Types.{SeatState, Vacant, Unjudged, Passed, Failed, Seat}
 use Rattle.tray.specs.Tray.{seatAt}
+use Rattle.tray_file.specs.State.{headingLength, lineLength, textLength}
 
 -- The place of the byte by which the four words differ: the sixth of the seat's line.
 abbrev pub tellingPlace : (number : ℕ) → ℕ
-tellingPlace number = 13 + number * 12 + 5
+tellingPlace number = headingLength + number * lineLength + 5
 
 -- The state that this byte tells, if it is one of the four.
 unfoldable pub stateToldBy : (byte : ℕ) → SeatState
@@ -23,17 +24,17 @@ pub record SeatsTold (file : List ℕ) (seats : List Seat) : Type 0 where
   pub of-forty : length seats ≡ 40
   pub each : (number : ℕ) → number < 40 → seatAt seats number ≡ seatToldBy (getD file (tellingPlace number) 0)
 
--- Up to this place, and no further, the file and a text of 493 bytes are the same.
+-- Up to this place, and no further, the file and a state file's text are the same.
 pub record SameUntil (file text : List ℕ) (place : ℕ) : Type 0 where
   pub in-file : place ≤ length file
-  pub in-text : place ≤ 493
+  pub in-text : place ≤ textLength
   pub same : (k : ℕ) → k < place → getD file k 0 ≡ getD text k 0
-  pub other : place < 493 → place < length file → getD file place 0 ≡ getD text place 0 → ⊥
+  pub other : place < textLength → place < length file → getD file place 0 ≡ getD text place 0 → ⊥
 
 -- The line that a place is in, counted from 1.
 unfoldable pub lineOf : (place : ℕ) → ℕ
-lineOf place = if ltb place 13 then 1 else (place - 13) / 12 + 2
+lineOf place = if ltb place headingLength then 1 else (place - headingLength) / lineLength + 2
 
 -- The line in which a file of this length is wrong that is right up to this place.
 unfoldable pub wrongLine : (place length : ℕ) → ℕ
-wrongLine place length = if eqb place 493 then if eqb length 493 then 0 else lineOf place else lineOf place
+wrongLine place length = if eqb place textLength then if eqb length textLength then 0 else lineOf place else lineOf place

@@ -1,7 +1,7 @@
 // The text of a tray's state file: a heading, and a line for each seat. Every line's place and length are fixed.
 ghost use Rattle.answer.specs.Basics.{_<_, getD, _≡_};
 ghost use Rattle.answer.specs.Text.{ascii};
-ghost use Rattle.tray_file.specs.State.{digit, stateWord, seatLine, stateText};
+ghost use Rattle.tray_file.specs.State.{digit, stateWord, seatLine, textLength, stateText};
 use tray::SEATS;
 use tray::Seat;
 use tray::SeatState;
@@ -29,7 +29,7 @@ pub fn state_text(seats: [Seat; SEATS]) -> [u8; TEXT_LENGTH]
 }
 
 fn state_byte(seats: [Seat; SEATS], place: usize) -> u8
-    requires { ⌜ place < 493 ⌝ }
+    requires { ⌜ place < textLength ⌝ }
     ensures { λ r. ⌜ r ≡ getD (stateText seats) place 0 ⌝ }
 {
     if place < HEADING_LENGTH {
