@@ -6,7 +6,8 @@ use lib.{ListN.length-append, ListN.List·getD-append, Seq.getD-append-add}
 use Rattle.answer.specs.Text.{ascii, space}
 use Rattle.tray.specs.Types.{SeatState, Vacant, Unjudged, Passed, Failed, Seat}
 use Rattle.tray.specs.Tray.{seatAt}
-use Rattle.tray_file.specs.State.{newline, digit, stateWord, seatLine, linesFrom, stateText}
+use Rattle.answer.specs.Text.{newline, digit}
+use Rattle.tray_file.specs.State.{stateWord, seatLine, linesFrom, stateText}
 
 word-length : (state : SeatState) → length (ascii (stateWord state)) ≡ 8
 word-length Vacant = refl

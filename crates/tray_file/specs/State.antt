@@ -1,16 +1,8 @@
 -- The text of a tray's state file: a heading, and a line for each seat in order.
-use Prim.Native.Char.{code}
 use Prim.Native.String.{String}
-use Rattle.answer.specs.Basics.{ℕ, suc, _+_, _/_, _%_, List, [], _∷_, _++_}
-use Rattle.answer.specs.Text.{ascii, space}
+use Rattle.answer.specs.Basics.{ℕ, suc, _/_, _%_, List, [], _∷_, _++_}
+use Rattle.answer.specs.Text.{ascii, space, newline, digit}
 use Rattle.tray.specs.Types.{SeatState, Vacant, Unjudged, Passed, Failed, Seat}
-
-abbrev pub newline : ℕ
-newline = code "\n"
-
--- The digit of a number below ten.
-abbrev pub digit : ℕ → ℕ
-digit n = code "0" + n
 
 -- A state's word, to the right in eight characters.
 abbrev pub stateWord : SeatState → String

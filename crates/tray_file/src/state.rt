@@ -1,7 +1,7 @@
 // The text of a tray's state file: a heading, and a line for each seat. Every line's place and length are fixed.
 ghost use Rattle.answer.specs.Basics.{_<_, getD, _≡_};
-ghost use Rattle.answer.specs.Text.{ascii};
-ghost use Rattle.tray_file.specs.State.{digit, stateWord, seatLine, textLength, stateText};
+ghost use Rattle.answer.specs.Text.{ascii, digit};
+ghost use Rattle.tray_file.specs.State.{stateWord, seatLine, textLength, stateText};
 use tray::SEATS;
 use tray::Seat;
 use tray::SeatState;

@@ -3,7 +3,8 @@ use Rattle.answer.specs.Basics.{ℕ, zero, suc, _/_, _%_, _^_, _≤_, _<_, Bool
 use mathlib.Core.Path.{refl, ap}
 use native.Mathlib.{Nat.pow-suc, Omega.arith}
 use borrow.Author.Tests.{lt-ltb, le-ltb}
-use Rattle.vcd.specs.Text.{digit, decimalIn, decimal}
+use Rattle.answer.specs.Text.{digit}
+use Rattle.vcd.specs.Text.{decimalIn, decimal}
 
 -- Where so many digits are enough, one more changes nothing.
 enough : (k n : ℕ) → n < 10 ^ suc k → decimalIn (suc k) n ≡ decimalIn (suc (suc k)) n

@@ -2,7 +2,8 @@
 use Prim.Native.Char.{code}
 use Rattle.answer.specs.Basics.{ℕ, _+_, List, [], _∷_, _++_, eqb, if_then_else_}
 use Rattle.recording.specs.{Types.Step, Ticks.totalTicks}
-use Rattle.vcd.specs.{Text.newline, Text.inLines, Text.decimal, Wires.valueText, Wires.changeText, Wires.eachWire}
+use Rattle.answer.specs.Text.{newline}
+use Rattle.vcd.specs.{Text.inLines, Text.decimal, Wires.valueText, Wires.changeText, Wires.eachWire}
 
 -- The declarations: the timescale, and a wire of one bit for each line with its identifier.
 unfoldable pub heading : List ℕ

@@ -1,20 +1,12 @@
--- Text as bytes.
-use Prim.Native.Char.{code}
-use Rattle.answer.specs.Basics.{ℕ, zero, suc, _+_, _/_, _%_, List, [], _∷_, _++_, ltb, if_then_else_}
+-- Lines and numbers as text.
+use Rattle.answer.specs.Basics.{ℕ, zero, suc, _/_, _%_, List, [], _∷_, _++_, ltb, if_then_else_}
 use Prim.Native.String.{String}
-use Rattle.answer.specs.Text.{ascii}
-
-abbrev pub newline : ℕ
-newline = code "\n"
+use Rattle.answer.specs.Text.{ascii, newline, digit}
 
 -- Lines of text; each ends with one newline.
 abbrev pub inLines : List String → List ℕ
 inLines [] = []
 inLines (line ∷ lines) = ascii line ++ (newline ∷ inLines lines)
-
--- The digit of a number below ten.
-abbrev pub digit : ℕ → ℕ
-digit n = code "0" + n
 
 -- A number in decimal, with no leading zeros, if `most` digits are enough: the last digit is the remainder by ten, and those before
 -- it, where there are any, are the quotient's.

@@ -3,7 +3,7 @@ use Prim.Native.Char.{code}
 use Rattle.answer.specs.Basics.{ℕ, _/_, _%_, List, [], _∷_, _++_, eqb, if_then_else_}
 use Rattle.vcd.specs.declared.wires.Wire.{Wire}
 use Rattle.vcd.specs.declared.wires.Wire.the-variants.{Atn, Clk, Data, Srq}
-use Rattle.vcd.specs.Text.{newline}
+use Rattle.answer.specs.Text.{newline}
 
 -- A wire's bit of a line byte, 1 when pulled: "bit 0 ATN, 1 CLK, 2 DATA, 3 SRQ".
 abbrev pub bitOf : Wire → (lines : ℕ) → ℕ

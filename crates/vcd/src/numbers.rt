@@ -1,6 +1,7 @@
 // Numbers in decimal.
 ghost use Rattle.answer.specs.Basics.{_<_, _≡_};
-ghost use Rattle.vcd.specs.{Text.digit, Text.decimal, Put.held, Put.Puts};
+ghost use Rattle.answer.specs.Text.{digit};
+ghost use Rattle.vcd.specs.{Text.decimal, Put.held, Put.Puts};
 use crate::window;
 use crate::window::Window;
 

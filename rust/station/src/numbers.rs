@@ -1,4 +1,4 @@
-//! Every number that the library answers with. A later one is a line here.
+//! Every number that the library answers with, and those that the command `tray` prints. A later one is a line here.
 
 use crate::number::numbers;
 use crate::UnknownNumber;
