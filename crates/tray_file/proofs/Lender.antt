@@ -117,7 +117,8 @@ module _ {M : Type 1} (𝓤 : URA M) (H : Heap 𝓤) (A : Atoms 𝓤) (W : Given
     goes : (b : ℕ) (γ : GName) (ν : ℕ) → ent 𝓤 (sep 𝓤 (sep 𝓤 (A .lft (ν ∷ []) fullShare) (sem 𝓤 H A ftrue))
         (sem 𝓤 H A (MutSlice (named 0) (ν ∷ []) S.the-row .own (slice ys b γ) (pointer ys b ∷ [])))) (Asked 𝓤 H A k .pre (to b γ ν))
     goes b γ ν =
-        qed W ((‵ (flft (ν ∷ []) fullShare) ⊛ ‵ ftrue) ∷ ‵ (MutSlice (named 0) (ν ∷ []) S.the-row .own (slice ys b γ) (pointer ys b ∷ [])) ∷ []) ∵
+        qed W ((‵ (flft (ν ∷ []) fullShare) ⊛ ‵ ftrue) ∷ ‵ (MutSlice (named 0) (ν ∷ []) S.the-row .own (slice ys b γ) (pointer ys b ∷ []))
+        ∷ []) ∵
         nothing ! $ owned ! usize (Is usize) (uint-makes 𝓤 H A W w64) i _ (refl, fits) $ fjoin ! $ move ! (2 ∷ 0 ∷ []) $ fjoin ! $
         move ! (1 ∷ 0 ∷ []) $ join ! $ frame ! $ done !
 
@@ -150,7 +151,8 @@ module _ {M : Type 1} (𝓤 : URA M) (H : Heap 𝓤) (A : Atoms 𝓤) (W : Given
           use1 W (‵ (cells (mem S.the-row) ys l₃ 0)) (whole-in 𝓤 H A W S.the-row ys l₃ 0) $
           lft-new ! tt (λ ν. move ! (1 ∷ []) $
           use1 W (later (some (λ (γ : GName). ‵ (MutSlice (named 0) (ν ∷ []) S.the-row .own (slice ys l₃ γ) (pointer ys l₃ ∷ [])) ⊛ ‵
-          (flent (ν ∷ []) (Held S.the-row (length ys) l₃ 0 γ))))) (lends-slice 𝓤 H A W S.the-row (named 0) (ν ∷ []) ys l₃ 0 (room ys long)) $
+          (flent (ν ∷ []) (Held S.the-row (length ys) l₃ 0 γ))))) (lends-slice 𝓤 H A W S.the-row (named 0) (ν ∷ []) ys l₃ 0 (room ys long))
+          $
           await ! tt $ pick ! (λ γ. split ! $
           -- [the slice; the lender's part; the token; _7; …; _6; …; _5; …; _4; …; …; _2; …; _1; …; _0; …]
           nothing ! $ move ! (3 ∷ 0 ∷ []) $ join ! $ use2 W (raw (Asked 𝓤 H A k .pre (to l₃ γ ν))) (goes l₃ γ ν) $

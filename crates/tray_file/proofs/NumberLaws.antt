@@ -5,6 +5,7 @@ use native.Mathlib.{Omega.arith, Numerals.add-one}
 use mathlib.Core.Path.{refl, ap, sym, _∙_}
 use borrow.Author.Tests.{lt-ltb, le-ltb, ltb-true, ltb-false}
 use lib.{ListN.drop-of-length-le, Seq.drop-cons}
+use Rattle.tray_file.proofs.LineLaws.{either-below}
 use Rattle.tray_file.specs.SeatNumber.{isDigit, allDigits, isNumber, numberAfter, numberOf, orForty}
 
 pub below-forty : (n : ℕ) → n < 40 → orForty n ≡ n
@@ -15,24 +16,17 @@ pub from-forty : (n : ℕ) → 40 ≤ n → orForty n ≡ 40
 unfolding orForty
 from-forty n h = rw (le-ltb n 40 h)
 
-either : {P : Type 0} (n : ℕ) → (n < 40 → P) → (40 ≤ n → P) → P
-either {P} n low high = at (ltb n 40) refl
-  where
-    at : (t : Bool) → ltb n 40 ≡ t → P
-    at true e = low (ltb-true n 40 e)
-    at false e = high (ltb-false n 40 e)
-
 pub at-most-forty : (n : ℕ) → orForty n ≤ 40
-at-most-forty n = either n (λ low. omega (arith, below-forty n low)) (λ high. omega (arith, from-forty n high))
+at-most-forty n = either-below n 40 (λ low. omega (arith, below-forty n low)) (λ high. omega (arith, from-forty n high))
 
 -- What is kept of a number is enough for what is kept of it with a digit more.
 digit-after : (n x : ℕ) → orForty (orForty n * 10 + x) ≡ orForty (n * 10 + x)
 digit-after n x =
-    either n (λ low. rw (below-forty n low))
+    either-below n 40 (λ low. rw (below-forty n low))
     (λ high. rw (from-forty n high) (from-forty (40 * 10 + x) (omega arith) ∙ sym (from-forty (n * 10 + x) (omega arith))))
 
 twice : (n : ℕ) → orForty (orForty n) ≡ orForty n
-twice n = either n (λ low. ap orForty (below-forty n low)) (λ high. rw (from-forty n high) (from-forty 40 (omega arith)))
+twice n = either-below n 40 (λ low. ap orForty (below-forty n low)) (λ high. rw (from-forty n high) (from-forty 40 (omega arith)))
 
 kept-after : (digits : List ℕ) (n : ℕ) → orForty (numberAfter (orForty n) digits) ≡ orForty (numberAfter n digits)
 unfolding numberAfter
@@ -75,7 +69,7 @@ pub kept-all : (digits : List ℕ) (number place : ℕ) → Kept digits number p
 unfolding numberAfter
 kept-all digits number place kept end =
     let rest : numberAfter number (drop place digits) ≡ number = rw (drop-of-length-le digits end) in
-    either number
+    either-below number 40
     (λ low. sym (below-forty number low) ∙ ap orForty (sym rest) ∙ kept .all)
     (λ high. let full : number ≡ 40 = omega (arith, kept .small) in full ∙ sym (from-forty number high) ∙ ap orForty (sym rest) ∙ kept .all)
 

@@ -3,10 +3,9 @@ use Rattle.answer.specs.Basics.{ℕ, zero, suc, _+_, _-_, _*_, _/_, _%_, _≤_,
 use native.Mathlib.Omega.{arith}
 use mathlib.Core.Path.{refl, ap, _∙_}
 use lib.{ListN.length-append, ListN.List·getD-append, Seq.getD-append-add}
-use Rattle.answer.specs.Text.{ascii, space}
 use Rattle.tray.specs.Types.{SeatState, Vacant, Unjudged, Passed, Failed, Seat}
 use Rattle.tray.specs.Tray.{seatAt}
-use Rattle.answer.specs.Text.{newline, digit}
+use Rattle.answer.specs.Text.{ascii, space, newline, digit}
 use Rattle.tray_file.specs.State.{stateWord, seatLine, linesFrom, stateText}
 
 word-length : (state : SeatState) → length (ascii (stateWord state)) ≡ 8

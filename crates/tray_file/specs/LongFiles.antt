@@ -6,7 +6,9 @@ use Rattle.tray_file.specs.{State.textLength, Reading.ReadAs, declared.r
 
 -- A state file, in a room that is longer than any.
 abbrev pub LongStateLaw : Type 0
-LongStateLaw = (file : List ℕ) (room : ℕ) (read : Read) → textLength < room → room ≤ length file → ReadAs (first room file) read → ReadAs file read
+LongStateLaw =
+    (file : List ℕ) (room : ℕ) (read : Read) → textLength < room → room ≤ length file
+    → ReadAs (first room file) read → ReadAs file read
 
 -- Expected bytes, in a room that is longer than the judge's buffer: neither what is read nor the whole passes, whatever the answer.
 abbrev pub LongExpectedLaw : Type 0

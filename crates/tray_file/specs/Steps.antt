@@ -2,7 +2,7 @@
 use Prim.Native.Char.{code}
 use Rattle.answer.specs.Basics.{ℕ, _+_, _-_, _*_, _/_, _≤_, _<_, List, length, getD, eqb, ltb, _≡_, if_then_else_}
 use Rattle.tray.specs.Types.{SeatState, Vacant, Unjudged, Passed, Failed, Seat}
-use Rattle.tray.specs.Tray.{seatAt}
+use Rattle.tray.specs.Tray.{seats as forty, seatAt}
 use Rattle.tray_file.specs.State.{headingLength, lineLength, textLength}
 
 -- The place of the byte by which the four words differ: the sixth of the seat's line.
@@ -21,8 +21,8 @@ seatToldBy byte = record { state = stateToldBy byte }
 
 -- The seats that these bytes tell.
 pub record SeatsTold (file : List ℕ) (seats : List Seat) : Type 0 where
-  pub of-forty : length seats ≡ 40
-  pub each : (number : ℕ) → number < 40 → seatAt seats number ≡ seatToldBy (getD file (tellingPlace number) 0)
+  pub of-forty : length seats ≡ forty
+  pub each : (number : ℕ) → number < forty → seatAt seats number ≡ seatToldBy (getD file (tellingPlace number) 0)
 
 -- Up to this place, and no further, the file and a state file's text are the same.
 pub record SameUntil (file text : List ℕ) (place : ℕ) : Type 0 where

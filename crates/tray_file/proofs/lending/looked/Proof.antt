@@ -87,6 +87,7 @@ module _ {M : Type 1} (𝓤 : URA M) (H : Heap 𝓤) (A : Atoms 𝓤) (W : Given
   abbrev Post : Val → SProp 𝓤
   Post = walkOf 𝓤 H A f.ended stayed (f.clauses 𝓤 H A mem₀ run) .post ((tt, tt, tt, (ys, tt), (machine ys ∷ [], tt)), tt)
 
+  -- what the slice that is lent owns, and what the lender keeps for it
   abbrev Own : ℕ → GName → ℕ → Fml
   Own b γ ν = ShrSlice (named 0) (ν ∷ []) S.the-row .own (slice ys b γ) (pointer ys b ∷ [])
 
@@ -100,17 +101,14 @@ module _ {M : Type 1} (𝓤 : URA M) (H : Heap 𝓤) (A : Atoms 𝓤) (W : Given
   abbrev to-count : ℕ → GName → ℕ → Count 𝓤 H A mem₀ run .Ghost
   to-count b γ ν = (((ν ∷ [], tt), (fullShare, tt), tt, (slice ys b γ, tt), (pointer ys b ∷ [], tt)), tt)
 
-  goes-seal : (b : ℕ) (γ : GName) (ν : ℕ) → ent 𝓤 (onEntry 𝓤 H A seal.signature (ν ∷ [], tt) (fullShare, tt) (slice ys b γ, tt) (pointer ys b ∷ [], tt))
+  goes : (b : ℕ) (γ : GName) (ν : ℕ) → ent 𝓤 (onEntry 𝓤 H A seal.signature (ν ∷ [], tt) (fullShare, tt) (slice ys b γ, tt)
+      (pointer ys b ∷ [], tt))
       (Seal 𝓤 H A mem₀ run .pre (to-seal b γ ν))
-  goes-seal b γ ν = qed W ((‵ (flft (ν ∷ []) fullShare) ⊛ ‵ ftrue) ∷ ‵
+  goes b γ ν = qed W ((‵ (flft (ν ∷ []) fullShare) ⊛ ‵ ftrue) ∷ ‵
       (owns (ShrSlice (named 0) (ν ∷ []) S.the-row ∷ []) (slice ys b γ, tt) (pointer ys b ∷ [], tt)) ∷ []) ∵ join ! $ frame ! $ done !
 
-  goes-count : (b : ℕ) (γ : GName) (ν : ℕ) → ent 𝓤 (onEntry 𝓤 H A count.signature (ν ∷ [], tt) (fullShare, tt) (slice ys b γ, tt) (pointer ys b ∷ [], tt))
-      (Count 𝓤 H A mem₀ run .pre (to-count b γ ν))
-  goes-count b γ ν = qed W ((‵ (flft (ν ∷ []) fullShare) ⊛ ‵ ftrue) ∷ ‵
-      (owns (ShrSlice (named 0) (ν ∷ []) S.the-row ∷ []) (slice ys b γ, tt) (pointer ys b ∷ [], tt)) ∷ []) ∵ join ! $ frame ! $ done !
-
-  seal-of : (b : ℕ) (γ : GName) (ν r : ℕ) → ent 𝓤 (ensured 𝓤 H A seal.ended (seal.clauses 𝓤 H A mem₀ run) (ν ∷ [], tt) (slice ys b γ, tt) tt r)
+  seal-of : (b : ℕ) (γ : GName) (ν r : ℕ) → ent 𝓤 (ensured 𝓤 H A seal.ended (seal.clauses 𝓤 H A mem₀ run) (ν ∷ [], tt) (slice ys b γ, tt)
+      tt r)
       (fact 𝓤 (r ≡ sealing ys))
   seal-of b γ ν r = exE 𝓤 _ (λ ws. snd∗ 𝓤 (sem 𝓤 H A (lasts seal.ended (ν ∷ [], tt) (slice ys b γ, tt) ws)) (fact 𝓤 (r ≡ sealing ys)))
 
@@ -159,15 +157,17 @@ module _ {M : Type 1} (𝓤 : URA M) (H : Heap 𝓤) (A : Atoms 𝓤) (W : Given
         lft-new ! tt (λ ν. move ! (1 ∷ []) $
         use1 W (later (some (λ (γ : GName). ‵ (Own l₂ γ ν) ⊛ ‵ (flent (ν ∷ []) (Parts l₂)))))
         (lends-shr-slice 𝓤 H A W S.the-row (named 0) (ν ∷ []) fullShare ys l₂ 0 (room ys long)) $ await ! tt $ pick ! (λ γ. split ! $
-        use1 W (‵ (Own l₂ γ ν) ⊛ ‵ (Own l₂ γ ν)) (shr-slice-copy 𝓤 H A W (named 0) (ν ∷ []) S.the-row .twice (slice ys l₂ γ) (pointer ys l₂ ∷ [])) $
+        use1 W (‵ (Own l₂ γ ν) ⊛ ‵ (Own l₂ γ ν)) (shr-slice-copy 𝓤 H A W (named 0) (ν ∷ []) S.the-row .twice (slice ys l₂ γ)
+        (pointer ys l₂ ∷ [])) $
         split ! $
         -- [the slice; the slice; the lender's part; the token; _8; …]
         nothing ! $ move ! (1 ∷ 0 ∷ []) $ fjoin ! $ nothing ! $ move ! (4 ∷ 0 ∷ []) $ join ! $
-        use2 W (raw (Seal 𝓤 H A mem₀ run .pre (to-seal l₂ γ ν))) (goes-seal l₂ γ ν) $
+        use2 W (raw (Seal 𝓤 H A mem₀ run .pre (to-seal l₂ γ ν))) (goes l₂ γ ν) $
         calls-at ! fm (Seal 𝓤 H A mem₀ run) known-seal (to-seal l₂ γ ν) (and-then ! (load ! (from ! (stop !)) (look ! 7 refl)) (no-more !))
         (λ w₀.
         use1 W (later (some (λ (r : ℕ). ((‵ (flft (ν ∷ []) fullShare) ⊛ ‵ ftrue) ⊛ ‵ (u8 .own r (w₀ ∷ []))) ⊛ raw
-        (ensured 𝓤 H A seal.ended (seal.clauses 𝓤 H A mem₀ run) (ν ∷ [], tt) (slice ys l₂ γ, tt) tt r)))) (id⊢ 𝓤 _) $ await ! tt $ pick ! (λ r.
+        (ensured 𝓤 H A seal.ended (seal.clauses 𝓤 H A mem₀ run) (ν ∷ [], tt) (slice ys l₂ γ, tt) tt r)))) (id⊢ 𝓤 _) $ await ! tt $
+        pick ! (λ r.
         split ! $ move ! (1 ∷ []) $ use1 W (raw (fact 𝓤 (r ≡ sealing ys))) (seal-of l₂ γ ν r) $ heard ! (r ≡ sealing ys) (λ e₀. split ! $
         move ! (1 ∷ []) $
         peeks ! u8 (Is u8) (shows 𝓤 H A u8) r (w₀ ∷ []) (λ is₀.
@@ -180,7 +180,7 @@ module _ {M : Type 1} (𝓤 : URA M) (H : Heap 𝓤) (A : Atoms 𝓤) (W : Given
         rewrite ! 3 (λ (k : ℕ). ‵ (fat fullShare (sliceTy (tyRef erased imm (pointee (S.the-row .written)))) l₈ 0 (sliceVal (l₂, 0) k)))
         (sym long) refl $
         move ! (1 ∷ []) $ nothing ! $ move ! (1 ∷ 0 ∷ []) $ fjoin ! $ move ! (1 ∷ 0 ∷ []) $
-        use2 W (raw (Count 𝓤 H A mem₀ run .pre (to-count l₂ γ ν))) (goes-count l₂ γ ν) $
+        use2 W (raw (Count 𝓤 H A mem₀ run .pre (to-count l₂ γ ν))) (goes l₂ γ ν) $
         calls-at ! fm (Count 𝓤 H A mem₀ run) known-count (to-count l₂ γ ν)
         (and-then ! (load ! (from ! (stop !)) (look ! 2 refl)) (no-more !)) (λ w.
         use1 W (later (some (λ (c : Counts). ((‵ (flft (ν ∷ []) fullShare) ⊛ ‵ ftrue) ⊛ ‵ (N.the-row .own c (w ∷ []))) ⊛ raw

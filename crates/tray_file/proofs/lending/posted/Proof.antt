@@ -113,7 +113,16 @@ module _ {M : Type 1} (𝓤 : URA M) (H : Heap 𝓤) (A : Atoms 𝓤) (W : Given
   passed b γ = (slice ys b γ, (i, (n, (buf, (wanted, tt)))))
 
   abbrev to : ℕ → GName → ℕ → Asked 𝓤 H A mem₀ run .Ghost
-  to b γ ν = (((ν ∷ [], (κ₁, (κ₂, tt))), (fullShare, (q₁, (q₂, tt))), tt, passed b γ, (pointer ys b ∷ [], (vint w64 i ∷ [], (m ∷ [], lists)))), tt)
+  to b γ ν = (
+    (
+      (ν ∷ [], (κ₁, (κ₂, tt))),
+      (fullShare, (q₁, (q₂, tt))),
+      tt,
+      passed b γ,
+      (pointer ys b ∷ [], (vint w64 i ∷ [], (m ∷ [], lists))),
+    ),
+    tt,
+  )
 
   goes : (b : ℕ) (γ : GName) (ν : ℕ)
       → ent 𝓤 (onEntry 𝓤 H A lent.signature (ν ∷ [], (κ₁, (κ₂, tt))) (fullShare, (q₁, (q₂, tt))) (passed b γ)
