@@ -39,6 +39,7 @@ impl Counts {
     }
 }
 
+// Of all seats, however many there are.
 pub fn count(tray: &[Seat]) -> Counts
     ensures { λ r. ⌜ r ≡ countsOf (now (tray .entry)) ⌝ }
 {

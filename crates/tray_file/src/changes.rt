@@ -23,10 +23,10 @@ pub fn new_tray() -> bool {
         os::fail(b"the state's name");
         return false;
     }
-    name_tray(&mut name[..length])
+    write_vacant_tray(&mut name[..length])
 }
 
-fn name_tray(state: &mut [u8]) -> bool {
+fn write_vacant_tray(state: &mut [u8]) -> bool {
     hide_controls(state);
     let seats = [Seat {
         state: SeatState::Vacant,
