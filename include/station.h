@@ -11,7 +11,7 @@
 #include <stdint.h>
 
 /* The version of the whole: header, library, commands and Rust crate. */
-#define STATION_VERSION "0.4.0"
+#define STATION_VERSION "0.5.0"
 
 #ifdef __cplusplus
 extern "C" {
@@ -42,6 +42,8 @@ enum station_number {
     STATION_MOVED_AFTER_THE_END = 37,       /* a line moved after the transfer was finished */
     STATION_END_MARK_UNDER_ATTENTION = 38,  /* the sender stayed silent for 200 ticks, an end mark, while ATN was pulled */
     STATION_ATTENTION_RELEASED = 39,        /* ATN was released before the commands were finished */
+    STATION_OVERRUN = 40,                   /* the recorder lost ticks before this step: nothing can be said of the transfer;
+                                             * record it again */
 
     /* refusals of the judges: they are about the file or the memory lent, not about a drive */
     STATION_SHORT_FILE = 1,     /* fewer than 16 bytes */
@@ -50,7 +52,7 @@ enum station_number {
     STATION_WRONG_OFFSET = 4,   /* the steps do not begin at 16 */
     STATION_WRONG_LENGTH = 5,   /* the length, by the header or truly, is not that of its steps */
     STATION_ZERO_DURATION = 6,  /* a step of no ticks */
-    STATION_STRAY_BITS = 7,     /* a step with bits that mean nothing */
+    STATION_STRAY_BITS = 7,     /* a step with line bits beyond the four, or a last byte above 1 */
     STATION_WRONG_TOTAL = 8,    /* the total is not the sum of the steps */
     STATION_SHORT_BUFFERS = 9,  /* fewer than STATION_BYTE_ROOM bytes or STATION_LEDGER_ROOM ledger places were lent */
 

@@ -105,8 +105,10 @@ static void try_judge(const uint8_t *recording) {
     memcpy(changed, recording, LENGTH);
     changed[LENGTH - 2] = 4;
     judges("DATA held at the end", of_data, changed, STATION_BYTE_ROOM, STATION_LEDGER_ROOM, answer(STATION_CUT, 4770, STEPS, COUNT));
-    changed[16 + 4 * 12 + 3] = 1;
-    judges("a stray bit in step 12", of_data, changed, STATION_BYTE_ROOM, STATION_LEDGER_ROOM, answer(STATION_STRAY_BITS, 0, 12, 0));
+    changed[16 + 4 * 42 + 3] = 1;
+    judges("a mark on step 42", of_data, changed, STATION_BYTE_ROOM, STATION_LEDGER_ROOM, answer(STATION_OVERRUN, 3010, 42, COUNT - 1));
+    changed[16 + 4 * 12 + 3] = 2;
+    judges("a last byte of 2", of_data, changed, STATION_BYTE_ROOM, STATION_LEDGER_ROOM, answer(STATION_STRAY_BITS, 0, 12, 0));
 }
 
 /* Makes a command recording of the one that was written of so many bytes: ATN is pulled in all steps but the last two, of which the first
@@ -137,11 +139,15 @@ static void try_judge_command(const uint8_t *recording) {
     try_rooms(of_commands, commands, answer(STATION_COMPLETE, 4340, STEPS - 2, COUNT));
     judges("commands as data", of_data, commands, STATION_BYTE_ROOM, STATION_LEDGER_ROOM, answer(STATION_ATTENTION, 0, 0, 0));
     judges("data as commands", of_commands, recording, STATION_BYTE_ROOM, STATION_LEDGER_ROOM, answer(STATION_ATTENTION_RELEASED, 0, 0, 0));
+    commands[16 + 4 * (STEPS - 2) + 3] = 1;
+    judges("a mark on the finish", of_commands, commands, STATION_BYTE_ROOM, STATION_LEDGER_ROOM,
+           answer(STATION_OVERRUN, 4340, STEPS - 2, COUNT - 1));
     commands[16 + 4 * (STEPS - 3) + 2] = 6;
     judges("ATN released with the take", of_commands, commands, STATION_BYTE_ROOM, STATION_LEDGER_ROOM,
            answer(STATION_ATTENTION_RELEASED, 4140, STEPS - 3, COUNT - 1));
-    commands[16 + 4 * 12 + 3] = 1;
-    judges("a stray bit in commands", of_commands, commands, STATION_BYTE_ROOM, STATION_LEDGER_ROOM, answer(STATION_STRAY_BITS, 0, 12, 0));
+    commands[16 + 4 * 12 + 3] = 2;
+    judges("a last byte of 2 in commands", of_commands, commands, STATION_BYTE_ROOM, STATION_LEDGER_ROOM,
+           answer(STATION_STRAY_BITS, 0, 12, 0));
 }
 
 static void try_writer(void) {

@@ -7,8 +7,8 @@ use Rattle.answer.specs.Types.{Refusal, ShortFile, WrongVersion, TooMany
 use Rattle.answer.specs.Types.{WrongTotal, ShortBuffers, TooManyBytes, ShortDestination, Fault, EmptyStream, Attention, NoReceiver}
 use Rattle.answer.specs.Types.{BadStart, OutOfTurn, EndMarkNotAcknowledged, AcknowledgementShort, AcknowledgementLong, LateClock}
 use Rattle.answer.specs.Types.{SenderTimeout, ValidTimeShort, DataMoved, ClockStall, ReceiverTimeout, Hurried, MovedAfterEnd}
-use Rattle.answer.specs.Types.{EndMarkUnderAttention, AttentionReleased, Verdict, Complete, Cut, Broken, NoSuchSeat, VacantSeat}
-use Rattle.answer.specs.Types.{SeatInUse, NotFortySeats}
+use Rattle.answer.specs.Types.{EndMarkUnderAttention, AttentionReleased, Overrun, Verdict, Complete, Cut, Broken, NoSuchSeat}
+use Rattle.answer.specs.Types.{VacantSeat, SeatInUse, NotFortySeats}
 
 -- Four kinds of numbers, told by a test that computes: a new number is one line of a list below.
 abbrev refusals : List Refusal
@@ -47,6 +47,7 @@ fault-kind Hurried = refl
 fault-kind MovedAfterEnd = refl
 fault-kind EndMarkUnderAttention = refl
 fault-kind AttentionReleased = refl
+fault-kind Overrun = refl
 
 verdict-kind : (v : Verdict) → kindOf (verdictNumber v) ≡ kind v
 verdict-kind Complete = refl

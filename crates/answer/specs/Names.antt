@@ -7,7 +7,7 @@ infix 70 _is_
 pub data Word : Type 0 where
   _is_ : ℕ → String → Word
 
--- 0 is the writer's answer where it wrote, 1 to 11 and 13 to 16 are refusals, 20 to 39 verdicts. A new number is one more line here.
+-- 0 is the writer's answer where it wrote, 1 to 11 and 13 to 16 are refusals, 20 to 40 verdicts. A new number is one more line here.
 abbrev pub words : List Word
 words =
     0 is "written"
@@ -46,6 +46,7 @@ words =
     ∷ 37 is "moved-after-the-end"
     ∷ 38 is "end-mark-under-attention"
     ∷ 39 is "attention-released"
+    ∷ 40 is "overrun"
     ∷ []
 
 abbrev pub wordAmong : List Word → (number : ℕ) → String

@@ -4,7 +4,8 @@ use Rattle.answer.specs.Types.{Refusal, ShortFile, WrongVersion, TooMany
 use Rattle.answer.specs.Types.{WrongTotal, ShortBuffers, TooManyBytes, ShortDestination, EmptyStream, Attention, NoReceiver, BadStart}
 use Rattle.answer.specs.Types.{OutOfTurn, EndMarkNotAcknowledged, AcknowledgementShort, AcknowledgementLong, LateClock, SenderTimeout}
 use Rattle.answer.specs.Types.{ValidTimeShort, DataMoved, ClockStall, ReceiverTimeout, Hurried, MovedAfterEnd, EndMarkUnderAttention}
-use Rattle.answer.specs.Types.{AttentionReleased, Verdict, Complete, Cut, Broken, NoSuchSeat, VacantSeat, SeatInUse, NotFortySeats}
+use Rattle.answer.specs.Types.{AttentionReleased, Overrun, Verdict, Complete, Cut, Broken, NoSuchSeat, VacantSeat, SeatInUse}
+use Rattle.answer.specs.Types.{NotFortySeats}
 
 -- "Refusals"; the definitions that give them say when.
 abbrev pub refusalNumber : Refusal → ℕ
@@ -14,7 +15,7 @@ refusalNumber TooManySteps = 3  -- "n above 16,000"
 refusalNumber WrongOffset = 4  -- "offset is not 16"
 refusalNumber WrongLength = 5  -- "length field, or true length, is not 16+4n"
 refusalNumber ZeroDuration = 6  -- "a step of duration 0"
-refusalNumber StrayBits = 7  -- "a step with other line bits or a last byte not 0"
+refusalNumber StrayBits = 7  -- as #103 has it: "other line bits or a last byte above 1"
 refusalNumber WrongTotal = 8  -- "total ticks wrong"
 refusalNumber ShortBuffers = 9  -- "byte buffer under 1,000 places, or ledger under 2,000"
 refusalNumber TooManyBytes = 10  -- "writer: more than 799 bytes"
@@ -48,6 +49,8 @@ verdictNumber (Broken MovedAfterEnd) = 37
 -- #101: "in D, (0,0) at offset 199 gives 38 (end mark under attention)"; "ATN released otherwise .. gives 39".
 verdictNumber (Broken EndMarkUnderAttention) = 38
 verdictNumber (Broken AttentionReleased) = 39
+-- #103: "The first tick of a marked step gives verdict 40".
+verdictNumber (Broken Overrun) = 40
 
 -- A number is a verdict's: some verdict has it.
 pub record IsVerdict (number : ℕ) : Type 0 where

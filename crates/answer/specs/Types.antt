@@ -8,4 +8,4 @@ pub use declared.verdict.Verdict.the-variants.{Complete, Cut, Broken}
 pub use declared.verdict.Fault.the-variants.{EmptyStream, Attention, NoReceiver, BadStart, OutOfTurn, EndMarkNotAcknowledged}
 pub use declared.verdict.Fault.the-variants.{AcknowledgementShort, AcknowledgementLong, LateClock, SenderTimeout, ValidTimeShort}
 pub use declared.verdict.Fault.the-variants.{DataMoved, ClockStall, ReceiverTimeout, Hurried, MovedAfterEnd, EndMarkUnderAttention}
-pub use declared.verdict.Fault.the-variants.{AttentionReleased}
+pub use declared.verdict.Fault.the-variants.{AttentionReleased, Overrun}

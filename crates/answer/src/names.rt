@@ -17,7 +17,7 @@ impl Name {
 }
 
 // How many numbers have a row, from 0 on: a new number is one more row.
-const ROWS: usize = 40;
+const ROWS: usize = 41;
 
 // 0 is the writer's answer where it wrote; "Refusals" are next, and "Verdicts" from 20 on.
 const WORDS: [u8; ROWS * Name::WIDTH] = *b"\
@@ -60,7 +60,8 @@ const WORDS: [u8; ROWS * Name::WIDTH] = *b"\
     hurried                  \
     moved-after-the-end      \
     end-mark-under-attention \
-    attention-released       ";
+    attention-released       \
+    overrun                  ";
 
 const NO_SUCH_NUMBER: [u8; Name::WIDTH] = *b"no-such-number           ";
 

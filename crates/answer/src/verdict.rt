@@ -22,6 +22,7 @@ pub enum Fault {
     MovedAfterEnd,
     EndMarkUnderAttention,
     AttentionReleased,
+    Overrun,
 }
 
 // Only a recording that runs out in phase E, or after the finish of commands, is complete: no tick can decide so.
@@ -54,6 +55,7 @@ impl Fault {
             Fault::MovedAfterEnd => 37,
             Fault::EndMarkUnderAttention => 38,
             Fault::AttentionReleased => 39,
+            Fault::Overrun => 40,
         }
     }
 }

@@ -5,6 +5,7 @@ mod crossed;
 mod cuts;
 mod handovers;
 mod limits;
+mod marks;
 mod pairs;
 mod refusals;
 mod samples;
@@ -22,7 +23,7 @@ use crate::output::print_class;
 // data, and then those of commands.
 const WRITTEN: u32 = 3;
 
-const MADE: u32 = 7;
+const MADE: u32 = 8;
 
 const ALL: u32 = WRITTEN + 2 * MADE;
 
@@ -62,6 +63,9 @@ fn put_made(entry: Entry, class: u32, number: u32, file: &mut [u8]) -> Case {
     }
     if class == 5 {
         return attention::put(entry, number, file);
+    }
+    if class == 6 {
+        return marks::put(entry, number, file);
     }
     crossed::put(entry, number, file)
 }

@@ -117,7 +117,7 @@ fn print_words(file: &[u8]) {
 }
 
 // Every number that a judge may give.
-const NUMBERS: [u8; 29] = [
+const NUMBERS: [u8; 30] = [
     1,
     2,
     3,
@@ -147,6 +147,7 @@ const NUMBERS: [u8; 29] = [
     37,
     38,
     39,
+    40,
 ];
 
 // How many recordings of data and of commands had each number, how many numbers none had, and the differences.

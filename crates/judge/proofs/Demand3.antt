@@ -2,21 +2,21 @@
 use Rattle.answer.specs.Basics.{ℕ, List, length, take, _≡_}
 use mathlib.Core.Path.{sym, ap, subst, subst⁻¹, _∙_}
 use lib.Seq.{take-append-seam}
-use Rattle.recording.specs.{Types.Step, Ticks.stepsOf}
+use Rattle.recording.specs.{Types.Step, GoodForm.GoodForm, Ticks.stepsOf}
 use Rattle.recording.proofs.GoodFormLaws.{good-form}
-use Rattle.transfer.specs.{Types.Limits, Types.Lines, Types.Byte, Limits.standardLimits, Limits.commandLimits, Outcome.outcome, Pair.values}
-use Rattle.transfer.specs.Pair.{SameOrLater}
-use Rattle.transfer.specs.Demand3.{Consistent, shownSender, shownReceiver, Explains, CompleteWith as CompleteTicks}
+use Rattle.transfer.specs.{Types.Limits, Types.Lines, Types.Tick, Types.Byte, Limits.standardLimits, Limits.commandLimits}
+use Rattle.transfer.specs.{Outcome.outcome, Pair.values, Pair.SameOrLater}
+use Rattle.transfer.specs.Demand3.{Consistent, shownSender, shownReceiver, Explains, Explained, CompleteWith as CompleteTicks}
 use Rattle.answer.specs.Numbers.{verdictNumber}
 use Rattle.transfer.proofs.Demand3.{demand3, standard-consistent, commands-consistent}
 use Rattle.answer.proofs.Numbers.{only-complete-is-20}
 use Rattle.judge.specs.Promise.{JudgePromise}
-use Rattle.judge.specs.Judged.{Judged, tickList, verdictLeaves, judged}
+use Rattle.judge.specs.Judged.{Judged, tickList, lineList, verdictLeaves, judged}
 use Rattle.judge.specs.Demand3.{GoodWithRoom, CompleteWith, dated, FileDemand3}
-use Rattle.judge.proofs.{JudgedLaws.is-verdict, LedgerLists.length-values, LedgerLists.reads-ledger}
+use Rattle.judge.proofs.{JudgedLaws.is-verdict, MarkLaws.no-mark, LedgerLists.length-values, LedgerLists.reads-ledger}
 
 -- What is left at a verdict is complete with a string exactly if the tick list is.
-module _ (L : Limits) (w : List Lines) (steps : List Step) (b g : List ℕ) where
+module _ (L : Limits) (w : List Tick) (steps : List Step) (b g : List ℕ) where
   abbrev verdictOf : Judged
   verdictOf = verdictLeaves steps (outcome L w) b g
 
@@ -48,34 +48,39 @@ module _ (L : Limits) (w : List Lines) (steps : List Step) (b g : List ℕ) wher
   dated-handed string c = sym (reads-ledger handed _) ∙ ap (λ (v : List ℕ). dated v (verdictOf .ledger)) (c .bytes)
 
 module _ (L : Limits) (times : Consistent L) (file b g : List ℕ) where
-  abbrev w : List Lines
+  abbrev w : List Tick
   w = tickList file
 
-  at-verdict : FileDemand3 L file (verdictLeaves (stepsOf file) (outcome L (tickList file)) b g)
-  at-verdict =
-      let ticks = demand3 L times (tickList file) in
+  abbrev l : List Lines
+  l = lineList file
+
+  at-verdict : (n : ℕ) → GoodForm file n → FileDemand3 L file (verdictLeaves (stepsOf file) (outcome L w) b g)
+  at-verdict n good =
+      let ticks = demand3 L times w in
       let steps = stepsOf file in
+      let marks = no-mark file n good in
       record {
         exactly = λ string. (
-          λ c. ticks .exactly string .0 (complete-ticks L w steps b g string c),
-          λ x. complete-file L w steps b g string (ticks .exactly string .1 x),
+          λ c. let x = ticks .exactly string .0 (complete-ticks L w steps b g string c) in (x .0, marks .1 (x .1)),
+          λ x. complete-file L w steps b g string (ticks .exactly string .1 (x .0, marks .0 (x .1))),
         );
         shown-pair = λ string c.
             let t = complete-ticks L w steps b g string c in
-            subst (λ (d : List Byte). Explains L w string (shownSender d w) (shownReceiver d w) d)
+            subst (λ (d : List Byte). Explains L l string (shownSender d l) (shownReceiver d l) d)
             (dated-handed L w steps b g string t) (ticks .shown-pair string t);
-        earliest = λ string sender receiver other x.
-            let t = ticks .exactly string .1 (record { sender = sender; receiver = receiver; dated = other; explains = x }) in
+        earliest = λ string sender receiver other x none.
+            let pair : Explained L l string = record { sender = sender; receiver = receiver; dated = other; explains = x } in
+            let t = ticks .exactly string .1 (pair, marks .0 none) in
             subst (λ (d : List Byte). SameOrLater d other) (dated-handed L w steps b g string t)
-            (ticks .earliest string sender receiver other x);
-        never = λ none e. ticks .never none (only-complete-is-20 _ e);
+            (ticks .earliest string sender receiver other x (marks .0 none));
+        never = λ none e. ticks .never (λ string x u. none string x (marks .1 u)) (only-complete-is-20 _ e);
       }
 
   pub file-demand3 : GoodWithRoom file b g → FileDemand3 L file (judged L file b g)
   file-demand3 good =
       subst⁻¹ (FileDemand3 L file)
       (is-verdict L file b g (good .steps) (good-form file (good .steps) .1 (good .good-form)) (good .byte-room) (good .ledger-room))
-      at-verdict
+      (at-verdict (good .steps) (good .good-form))
 
 -- The promise, from its first clause, for all times that are consistent; and for each entry, from the limits that its call made.
 promise : (L : Limits) → Consistent L → (file b g : List ℕ) (j : Judged) → j ≡ judged L file b g → JudgePromise L file b g j

@@ -6,6 +6,7 @@ pub mod Demand3
 pub mod Mission
 pub mod LongFiles
 pub mod TickLists
+pub mod MarkLaws
 pub mod HandedLists
 pub mod ReadingLaws
 pub mod HoldingLaws

@@ -11,7 +11,7 @@ use Rattle.recording.specs.{Form.formOf, GoodForm.GoodForm, Layout.headerAt}
 use Rattle.recording.specs.Ticks.{stepsFrom, stepsOf, totalTicks, ticks, ticksOf}
 use Rattle.recording.specs.Types.{Form, Good, Refused, Step}
 use Rattle.recording.proofs.{GoodFormLaws.good-form, StepLaws.steps-count, StepLaws.total-counts}
-use Rattle.transfer.specs.{Demand3.Consistent, Limits.standardLimits, Limits.commandLimits, Lines.linesOf, Outcome.Outcome}
+use Rattle.transfer.specs.{Demand3.Consistent, Limits.standardLimits, Limits.commandLimits, Outcome.Outcome}
 use Rattle.transfer.specs.Types.{Entry, Plain, Command, Limits, Phase, End, Finished}
 use Rattle.transfer.specs.{Outcome.run, Outcome.outcome, Pair.values, Moves.Stage, Moves.Running, Moves.Holding, Moves.stage}
 use Rattle.transfer.specs.{Moves.decisionIn, Moves.decisionOf, Rules.lastOf}
@@ -22,15 +22,15 @@ use Rattle.transfer.proofs.{DecisionTicks.decision-tick, Demand3.demand3, Deman
 use Rattle.transfer.proofs.{Demand3.commands-consistent, Facts.pair-sends-bytes, Facts.never-both}
 use Rattle.transfer.proofs.Stages.{Told, is-running, is-holding, is-end, is-past, is-decided, told}
 use Rattle.judge.specs.Demand3.{GoodWithRoom}
-use Rattle.judge.specs.Judged.{Judged, leaves, byteRoom, ledgerRoom, tickLines, tickList, twoTicks, stepHolding, verdictLeaves}
-use Rattle.judge.specs.Judged.{judged}
+use Rattle.judge.specs.Judged.{Judged, leaves, byteRoom, ledgerRoom, shownBy, ticksShown, tickList, lineList, twoTicks}
+use Rattle.judge.specs.Judged.{stepHolding, verdictLeaves, judged}
 use Rattle.judge.specs.Mission.{Holds, AtTheEnd, endOf, given, IsFinished, Mission, MissionLaw, StandardMissionLaw, NeverBothLaw}
 use Rattle.judge.proofs.{HoldingLaws.held-by-step, HoldingLaws.held-at-the-end, LedgerLists.length-values}
 use Rattle.judge.proofs.JudgedLaws.{good-steps, is-refused, few-places, few-ledger-places, is-verdict}
 
 -- The ticks of a recording of good form, as its steps have them and as its header says.
 ticks-of : (file : List ℕ) → length (tickList file) ≡ totalTicks (stepsOf file)
-ticks-of file = length-map (ticks (stepsOf file)) linesOf ∙ sym (total-counts (stepsOf file))
+ticks-of file = length-map (ticks (stepsOf file)) shownBy ∙ sym (total-counts (stepsOf file))
 
 header-total : (file : List ℕ) (n : ℕ) → GoodForm file n → headerAt file .total ≡ totalTicks (stepsOf file)
 unfolding ticksOf
@@ -99,8 +99,8 @@ module _ (L : Limits) (file bytes ledger : List ℕ) where
   no-end : Consistent L → L .entry ≡ Command → read .decision .verdict ≡ Complete → (finish : ℕ)
       → stateAfter L firstState (tickList file) .phase ≡ End finish → ⊥
   no-end times command e finish at =
-      let explained = demand3 L times (tickList file) .exactly (values (read .bytes)) .0 (record { verdict = e; bytes = refl }) in
-      let until = attention-law L (tickList file) _ explained .command command in
+      let explained = demand3 L times (tickList file) .exactly (values (read .bytes)) .0 (record { verdict = e; bytes = refl }) .0 in
+      let until = attention-law L (lineList file) _ explained .command command in
       false≢true
       (sym (ap (lastOf false) (until .is) ∙ last-released (until .finish) (until .later))
       ∙ command-end-pulled L command (tickList file) firstState false (λ f start. ap endsIn start) finish at)
@@ -150,7 +150,7 @@ module _ (L : Limits) (file bytes ledger : List ℕ) where
   sends-a-byte times (refusal r step is) h = absurd (no-verdict r step is Complete (sym h))
   sends-a-byte times (verdict form is) h =
       let complete = completes (verdict form is) h in
-      let pair = demand3 L times (tickList file) .exactly (values (read .bytes)) .0 (record { verdict = complete; bytes = refl }) in
+      let pair = demand3 L times (tickList file) .exactly (values (read .bytes)) .0 (record { verdict = complete; bytes = refl }) .0 in
       let one = pair-sends-bytes _ _ _ _ _ (pair .explains .pair) .one in
       subst⁻¹ (λ (j : Judged). 1 ≤ j .answer .count) is (omega (arith, length-values (read .bytes), one))
 
@@ -164,7 +164,7 @@ module _ (L : Limits) (file bytes ledger : List ℕ) where
   unfolding ticks run stepHolding twoTicks
   cuts g e =
       is-verdict L file bytes ledger (g .steps) (good-form file (g .steps) .1 (g .good-form)) (g .byte-room) (g .ledger-room)
-      ∙ ap (λ (steps : List Step). verdictLeaves steps (outcome L (tickLines steps)) bytes ledger)
+      ∙ ap (λ (steps : List Step). verdictLeaves steps (outcome L (ticksShown steps)) bytes ledger)
       (has-no-steps (g .steps) (g .good-form) e)
 
   -- Whether a refusal is due.

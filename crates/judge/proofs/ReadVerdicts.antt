@@ -6,10 +6,10 @@ use Rattle.answer.specs.{Types.Answer, Answers._over_, Numbers.verdictNumber}
 use Rattle.recording.specs.{Types.Good, Types.Step, Form.formOf, Ticks.stepsFrom}
 use Rattle.recording.proofs.GoodFormLaws.{good-form}
 use Rattle.reader.specs.{After.handedOver, States.firstState}
-use Rattle.transfer.specs.{Types.Limits, Types.Lines, Types.Decision, Outcome.Outcome, Outcome.outcome, Pair.values, Moves.decisionOf}
+use Rattle.transfer.specs.{Types.Limits, Types.Tick, Types.Decision, Outcome.Outcome, Outcome.outcome, Pair.values, Moves.decisionOf}
 use Rattle.reader.specs.declared.state.State.{State}
 use Rattle.reader.proofs.{TickLaws.counts, Outcomes.outcome-states}
-use Rattle.judge.specs.Judged.{leaves, byteRoom, ledgerRoom, tickLines, twoTicks, stepHolding, verdictAnswer, verdictLeaves, judged}
+use Rattle.judge.specs.Judged.{leaves, byteRoom, ledgerRoom, ticksShown, twoTicks, stepHolding, verdictAnswer, verdictLeaves, judged}
 use Rattle.judge.specs.Reading.{ticksFrom, Reached, reached, readInto, stateAnswer}
 use Rattle.judge.proofs.JudgedLaws.{good-steps, is-verdict}
 
@@ -22,7 +22,7 @@ state-answer steps s d step number ed es en =
     ∙ ap (λ (e : Decision). verdictAnswer steps e (s .count)) ed
 
 -- A tick list that was read into lent buffers, and the answer to the state reached, are the verdict's.
-read-verdict : (L : Limits) (steps : List Step) (w : List Lines) (b g : List ℕ)
+read-verdict : (L : Limits) (steps : List Step) (w : List Tick) (b g : List ℕ)
     → leaves (stateAnswer steps (readInto L w b g .state)) (readInto L w b g .bytes) (readInto L w b g .ledger)
     ≡ verdictLeaves steps (outcome L w) b g
 unfolding readInto
@@ -42,5 +42,5 @@ is-read L file b g n e hb hg s b′ g′ a er ea =
     ap (λ (x : Answer). leaves x b′ g′) ea
     ∙ ap (λ (r : Reached). leaves (stateAnswer (stepsFrom file 0 n) (r .state)) (r .bytes) (r .ledger)) er
     ∙ read-verdict L (stepsFrom file 0 n) (ticksFrom file 0 n) b g
-    ∙ ap (λ (steps : List Step). verdictLeaves steps (outcome L (tickLines steps)) b g) (sym (good-steps file n good))
+    ∙ ap (λ (steps : List Step). verdictLeaves steps (outcome L (ticksShown steps)) b g) (sym (good-steps file n good))
     ∙ sym (is-verdict L file b g n e hb hg)

@@ -1,14 +1,15 @@
 -- The laws by which the two loops of a reading go, and what both keep. Assumes nothing.
-use Rattle.answer.specs.Basics.{ℕ, _+_, _*_, _≤_, _<_, true, List, [], _∷_, _++_, length, replicate, _≡_}
+use Rattle.answer.specs.Basics.{ℕ, _+_, _*_, _≤_, _<_, Bool, true, false, List, [], _∷_, _++_, length, replicate, _≡_}
 use mathlib.Core.Path.{refl, sym, ap, ap₂, subst, _∙_}
 use native.Mathlib.Omega.{arith}
 use lib.Seq.{sets}
 use Rattle.reader.specs.{After.stateAfter, After.handedIn, After.handedOver, States.firstState, States.nextState}
 use Rattle.reader.specs.Idle.{idleTicks, later, Idle, Counted}
-use Rattle.transfer.specs.{Types.Limits, Types.Lines, Types.Byte, Pair.values, Moves.isDecided, Moves.heldByte}
+use Rattle.transfer.specs.{Types.Limits, Types.Lines, Types.Tick, Types.Byte, Pair.values, Moves.isDecided, Moves.heldByte}
+use Rattle.transfer.specs.Spans.{tick}
 use Rattle.reader.specs.declared.state.State.{State}
 use Rattle.reader.proofs.IdleLaws.{idle-law}
-use Rattle.reader.proofs.TickLaws.{OneTick, one-tick, counts, stands}
+use Rattle.reader.proofs.TickLaws.{OneTick, one-tick, counts, marked-decides, stands}
 use Rattle.judge.specs.Judged.{byteRoom, ledgerRoom, twoTicks}
 use Rattle.judge.specs.Reading.{withByte, withTicks, Reached, reached, readInto}
 use Rattle.judge.proofs.LedgerLists.{length-values, length-twoTicks}
@@ -16,14 +17,14 @@ use Rattle.judge.proofs.HandedLists.{stored-first, byte-stored, ticks-s
 
 module _ (L : Limits) where
   -- What a reading comes to that has ticks w still before it: the bytes they hand over are stored after those that stand there.
-  unfoldable pub comesTo : (s : State) (bytes ledger : List ℕ) → List Lines → Reached
+  unfoldable pub comesTo : (s : State) (bytes ledger : List ℕ) → List Tick → Reached
   comesTo s bytes ledger w =
       let handed = handedOver L s w in
       reached (stateAfter L s w) (sets bytes (s .count) (values handed)) (sets ledger (2 * s .count) (twoTicks handed))
 
   -- What both loops keep: t ticks or fewer are behind, w is before, and the reading comes to the whole. The buffers are as long as they
   -- were, and all bytes that are still handed over have their places.
-  pub record Keeps (whole : Reached) (bytes₀ ledger₀ : List ℕ) (t : ℕ) (w : List Lines) (s : State) (bytes ledger : List ℕ) : Type 0 where
+  pub record Keeps (whole : Reached) (bytes₀ ledger₀ : List ℕ) (t : ℕ) (w : List Tick) (s : State) (bytes ledger : List ℕ) : Type 0 where
     pub comes : whole ≡ comesTo s bytes ledger w
     pub tick : s .tick ≤ t
     pub few : stateAfter L s w .count < byteRoom
@@ -31,7 +32,7 @@ module _ (L : Limits) where
     pub ledger-places : length ledger ≡ length ledger₀
 
   -- One tick: a byte that it hands over is stored, and then the rest.
-  stored : (s t : State) (bytes ledger : List ℕ) (x : Lines) (w : List Lines) → t ≡ nextState L s x
+  stored : (s t : State) (bytes ledger : List ℕ) (x : Tick) (w : List Tick) → t ≡ nextState L s x
       → comesTo s bytes ledger (x ∷ w) ≡ comesTo t (withByte bytes s t) (withTicks ledger s t) w
   unfolding comesTo stateAfter handedOver
   stored s t bytes ledger x w e =
@@ -43,7 +44,7 @@ module _ (L : Limits) where
       (ticks-stored s t (heldByte (s .phase)) rest one ledger _ refl)
 
   -- A tick is read.
-  pub tick-read : (whole : Reached) (b₀ g₀ : List ℕ) (n m : ℕ) (x : Lines) (w w′ : List Lines) (s t : State) (b b′ g g′ : List ℕ)
+  pub tick-read : (whole : Reached) (b₀ g₀ : List ℕ) (n m : ℕ) (x : Tick) (w w′ : List Tick) (s t : State) (b b′ g g′ : List ℕ)
       → Keeps whole b₀ g₀ n w s b g → n < m → w ≡ x ∷ w′ → t ≡ nextState L s x → b′ ≡ withByte b s t → g′ ≡ withTicks g s t
       → Keeps whole b₀ g₀ m w′ t b′ g′
   unfolding stateAfter
@@ -59,28 +60,36 @@ module _ (L : Limits) where
       }
 
   -- A byte that a tick hands over was taken by then.
-  pub taken-by : (s t : State) (x : Lines) → t ≡ nextState L s x → (t .count ≡ s .count → ⊥) → heldByte (s .phase) .take ≤ s .tick
+  pub taken-by : (s t : State) (x : Tick) → t ≡ nextState L s x → (t .count ≡ s .count → ⊥) → heldByte (s .phase) .take ≤ s .tick
   taken-by s t x et =
       subst (λ (u : State). (u .count ≡ s .count → ⊥) → heldByte (s .phase) .take ≤ s .tick) (sym et) (one-tick L s x .taken)
 
   -- A tick moves the state's tick on by one at most.
-  pub tick-most : (s t : State) (x : Lines) → t ≡ nextState L s x → t .tick ≤ s .tick + 1
+  pub tick-most : (s t : State) (x : Tick) → t ≡ nextState L s x → t .tick ≤ s .tick + 1
   tick-most s t x et = subst (λ (u : State). u .tick ≤ s .tick + 1) (sym et) (one-tick L s x .tick-most)
 
   -- What is counted after a tick, of the state that the code has.
-  pub counted : (s t : State) (x : Lines) (most ticks : ℕ) → t ≡ nextState L s x → ticks ≡ idleTicks L (t .phase) (t .tick) most
-      → Counted L t x most ticks
+  pub counted : (s t : State) (x : Tick) (most ticks : ℕ) → t ≡ nextState L s x → ticks ≡ idleTicks L (t .phase) (t .tick) most
+      → Counted L t (x .lines) most ticks
   counted s t x most ticks et e =
-      subst (Counted L t x most) (sym e)
-      (subst (λ (u : State). Counted L u x most (idleTicks L (u .phase) (u .tick) most)) (sym et) (idle-law L s x most))
+      subst (Counted L t (x .lines) most) (sym e)
+      (subst (λ (u : State). Counted L u (x .lines) most (idleTicks L (u .phase) (u .tick) most)) (sym et) (idle-law L s x most))
+
+  -- A tick that decided nothing is unmarked.
+  pub unmarked : (s t : State) (x : Tick) → t ≡ nextState L s x → isDecided (t .phase) ≡ false → x .marked ≡ false
+  unmarked s t x et u = by-mark (x .marked) refl
+    where
+      by-mark : (m : Bool) → x .marked ≡ m → m ≡ false
+      by-mark true e = sym (marked-decides L s x e) ∙ ap (λ (v : State). isDecided (v .phase)) (sym et) ∙ u
+      by-mark false e = refl
 
   -- Idle ticks are passed over.
-  pub idle-passed : (whole : Reached) (b₀ g₀ : List ℕ) (n m ticks : ℕ) (x : Lines) (w w′ : List Lines) (s t : State) (b g : List ℕ)
-      → Keeps whole b₀ g₀ n w s b g → n + ticks ≤ m → w ≡ replicate ticks x ++ w′ → Idle L s x ticks → t ≡ later s ticks
+  pub idle-passed : (whole : Reached) (b₀ g₀ : List ℕ) (n m ticks : ℕ) (x : Lines) (w w′ : List Tick) (s t : State) (b g : List ℕ)
+      → Keeps whole b₀ g₀ n w s b g → n + ticks ≤ m → w ≡ replicate ticks (tick false x) ++ w′ → Idle L s x ticks → t ≡ later s ticks
       → Keeps whole b₀ g₀ m w′ t b g
   unfolding comesTo
   idle-passed whole b₀ g₀ n m ticks x w w′ s t b g k h ew i et =
-      let passed : comesTo s b g (replicate ticks x ++ w′) ≡ comesTo (later s ticks) b g w′ =
+      let passed : comesTo s b g (replicate ticks (tick false x) ++ w′) ≡ comesTo (later s ticks) b g w′ =
       ap₂ (λ (u : State) (handed : List Byte). reached u (sets b (s .count) (values handed)) (sets g (2 * s .count) (twoTicks handed)))
       (i .state w′) (i .bytes w′) in
       record {
@@ -94,7 +103,7 @@ module _ (L : Limits) where
       }
 
   -- A step begins: from here on the reading comes to the same.
-  pub step-begins : (whole : Reached) (b₀ g₀ : List ℕ) (n m : ℕ) (w w′ w″ : List Lines) (s : State) (b g : List ℕ)
+  pub step-begins : (whole : Reached) (b₀ g₀ : List ℕ) (n m : ℕ) (w w′ w″ : List Tick) (s : State) (b g : List ℕ)
       → Keeps whole b₀ g₀ n w s b g → n ≤ m → w ≡ w′ → w″ ≡ w′ → Keeps (comesTo s b g w′) b g m w″ s b g
   step-begins whole b₀ g₀ n m w w′ w″ s b g k h e e″ =
       record {
@@ -106,7 +115,7 @@ module _ (L : Limits) where
       }
 
   -- A step ends: what its own loop kept goes on for the outer one.
-  pub step-ends : (whole : Reached) (b₀ g₀ : List ℕ) (n m l : ℕ) (w w′ v v′ : List Lines) (s t : State) (b b′ g g′ : List ℕ)
+  pub step-ends : (whole : Reached) (b₀ g₀ : List ℕ) (n m l : ℕ) (w w′ v v′ : List Tick) (s t : State) (b b′ g g′ : List ℕ)
       → Keeps whole b₀ g₀ n w s b g → w ≡ w′ → Keeps (comesTo s b g w′) b g m v t b′ g′ → v ≡ v′ → m ≤ l
       → Keeps whole b₀ g₀ l v′ t b′ g′
   step-ends whole b₀ g₀ n m l w w′ v v′ s t b b′ g g′ k e i f h =
@@ -119,13 +128,13 @@ module _ (L : Limits) where
       }
 
   -- The recording ends.
-  pub reading-ends : (whole : Reached) (b₀ g₀ : List ℕ) (n : ℕ) (w : List Lines) (s : State) (b g : List ℕ)
+  pub reading-ends : (whole : Reached) (b₀ g₀ : List ℕ) (n : ℕ) (w : List Tick) (s : State) (b g : List ℕ)
       → Keeps whole b₀ g₀ n w s b g → w ≡ [] → whole ≡ reached s b g
   unfolding comesTo stateAfter handedOver twoTicks
   reading-ends whole b₀ g₀ n w s b g k e = k .comes ∙ ap (comesTo s b g) e
 
   -- A verdict stands, whatever ticks follow.
-  pub verdict-stands : (whole : Reached) (b₀ g₀ : List ℕ) (n : ℕ) (w : List Lines) (s : State) (b g : List ℕ)
+  pub verdict-stands : (whole : Reached) (b₀ g₀ : List ℕ) (n : ℕ) (w : List Tick) (s : State) (b g : List ℕ)
       → Keeps whole b₀ g₀ n w s b g → isDecided (s .phase) ≡ true → whole ≡ reached s b g
   unfolding comesTo twoTicks
   verdict-stands whole b₀ g₀ n w s b g k e =
@@ -135,11 +144,11 @@ module _ (L : Limits) where
       (same .state) (same .bytes)
 
   -- No byte is handed over that has no place.
-  pub has-place : (s : State) (w : List Lines) → stateAfter L s w .count < byteRoom → s .count < byteRoom
+  pub has-place : (s : State) (w : List Tick) → stateAfter L s w .count < byteRoom → s .count < byteRoom
   has-place s w h = omega (arith, counts L w s)
 
   -- The beginning: all ticks are before.
-  pub reading-begins : (s : State) (b g : List ℕ) (w w′ : List Lines) → s ≡ firstState → w′ ≡ w
+  pub reading-begins : (s : State) (b g : List ℕ) (w w′ : List Tick) → s ≡ firstState → w′ ≡ w
       → length (handedOver L firstState w) < byteRoom → Keeps (comesTo s b g w) b g 0 w′ s b g
   reading-begins s b g w w′ e all few =
       subst (λ (u : State). Keeps (comesTo u b g w) b g 0 w′ u b g) (sym e)
@@ -152,7 +161,7 @@ module _ (L : Limits) where
       })
 
   -- The whole reading.
-  pub reading-is : (s : State) (b g : List ℕ) (w : List Lines) → s ≡ firstState → length (handedOver L firstState w) < byteRoom
+  pub reading-is : (s : State) (b g : List ℕ) (w : List Tick) → s ≡ firstState → length (handedOver L firstState w) < byteRoom
       → byteRoom ≤ length b → ledgerRoom ≤ length g → comesTo s b g w ≡ readInto L w b g
   unfolding comesTo readInto
   reading-is s b g w e few hb hg =

@@ -1,10 +1,10 @@
 -- What the judge answers and leaves, for any bytes and any lent buffers: document 01, "Numbers and what they leave".
 use Rattle.answer.specs.Basics.{ℕ, suc, _-_, List, [], _∷_, map, length, ltb, if_then_else_}
 use Rattle.answer.specs.{Types.Answer, Types.ShortBuffers, Answers.refused, Answers._over_, Numbers.verdictNumber}
-use Rattle.recording.specs.{Form.formOf, Ticks.stepsOf, Ticks.ticks}
+use Rattle.recording.specs.{Form.formOf, Ticks.Tick as Recorded, Ticks.stepsOf, Ticks.ticks}
 use Rattle.recording.specs.Types.{Form, Good, Refused, Step}
-use Rattle.transfer.specs.{Lines.linesOf, Outcome.Outcome, Outcome.outcome, Pair.values}
-use Rattle.transfer.specs.Types.{Limits, Lines, Byte, Decision}
+use Rattle.transfer.specs.{Lines.linesOf, Outcome.Outcome, Outcome.outcome, Pair.values, Spans.linesIn}
+use Rattle.transfer.specs.Types.{Limits, Lines, Tick, Byte, Decision}
 
 -- What the judge leaves: an answer, and both lent buffers.
 pub record Judged : Type 0 where
@@ -22,12 +22,19 @@ byteRoom = 1000
 abbrev pub ledgerRoom : ℕ
 ledgerRoom = 2000
 
--- What each tick of some steps shows, and so the tick list that a recording means.
-abbrev pub tickLines : List Step → List Lines
-tickLines steps = map linesOf (ticks steps)
+-- What a tick of a recording shows: the lines, and the recorder's mark.
+abbrev pub shownBy : Recorded → Tick
+shownBy t = record { marked = t .marked; lines = linesOf (t .lines) }
 
-abbrev pub tickList : (file : List ℕ) → List Lines
-tickList file = tickLines (stepsOf file)
+-- What each tick of some steps shows, and so the tick list that a recording means; and the lines of it.
+abbrev pub ticksShown : List Step → List Tick
+ticksShown steps = map shownBy (ticks steps)
+
+abbrev pub tickList : (file : List ℕ) → List Tick
+tickList file = ticksShown (stepsOf file)
+
+abbrev pub lineList : (file : List ℕ) → List Lines
+lineList file = linesIn (tickList file)
 
 -- "The step holding" a tick. Where no step does, it is the number of steps: "22: total ticks and n".
 unfoldable pub stepHolding : (tick : ℕ) → List Step → ℕ
@@ -56,7 +63,7 @@ judgedInForm L steps (Good n) bytes ledger =
     -- 9: "byte buffer under 1,000 places, or ledger under 2,000"
     if ltb (length bytes) byteRoom then leaves (refused ShortBuffers 0) bytes ledger else
     if ltb (length ledger) ledgerRoom then leaves (refused ShortBuffers 0) bytes ledger else
-    verdictLeaves steps (outcome L (tickLines steps)) bytes ledger
+    verdictLeaves steps (outcome L (ticksShown steps)) bytes ledger
 
 -- What the judge gives: the form is tested first (1 to 8), then the room (9), and then the recording is read.
 unfoldable pub judged : Limits → (file bytes ledger : List ℕ) → Judged

@@ -6,5 +6,6 @@ use Rattle.judge.specs.{Judged.Judged, Judged.judged, Demand3.GoodWithRo
 pub record JudgePromise (L : Limits) (file bytes ledger : List ℕ) (left : Judged) : Type 0 where
   -- They are what the definition gives.
   pub given : left ≡ judged L file bytes ledger
-  -- Demand 3: of good form, with enough room lent, the recording is complete with a string exactly if a pair for it gives the recording.
+  -- Demand 3: of good form, with enough room lent, the recording is complete with a string exactly if a pair for it gives the recording
+  -- and no step is marked.
   pub explained : GoodWithRoom file bytes ledger → FileDemand3 L file left

@@ -3,9 +3,9 @@ use Rattle.answer.specs.Basics.{ℕ, _+_, _*_, _^_, _≤_, _<_, List, length, s
 use Rattle.answer.specs.{Types.Answer, Answers._over_}
 use Rattle.recording.specs.{Types.Step, Layout.mostSteps, Layout.fileLength, Ticks.stepsFrom}
 use Rattle.reader.specs.{After.stateAfter, After.handedOver, States.firstState}
-use Rattle.transfer.specs.{Types.Limits, Types.Lines, Pair.values, Moves.heldByte, Moves.decisionOf}
+use Rattle.transfer.specs.{Types.Limits, Types.Tick, Pair.values, Moves.heldByte, Moves.decisionOf}
 use Rattle.reader.specs.declared.state.State.{State}
-use Rattle.judge.specs.Judged.{byteRoom, ledgerRoom, tickLines, twoTicks, verdictAnswer}
+use Rattle.judge.specs.Judged.{byteRoom, ledgerRoom, ticksShown, twoTicks, verdictAnswer}
 
 -- The byte buffer and the ledger after a tick from s to t: the byte that it handed over, if it did, stands at its place.
 abbrev pub withByte : (bytes : List ℕ) (s t : State) → List ℕ
@@ -30,8 +30,8 @@ pub record Readable (file : List ℕ) (n : ℕ) (bytes ledger : List ℕ) : Type
   pub ledger-room : ledgerRoom ≤ length ledger
 
 -- What each tick of the n steps from step i on shows.
-abbrev pub ticksFrom : (file : List ℕ) (i n : ℕ) → List Lines
-ticksFrom file i n = tickLines (stepsFrom file i n)
+abbrev pub ticksFrom : (file : List ℕ) (i n : ℕ) → List Tick
+ticksFrom file i n = ticksShown (stepsFrom file i n)
 
 -- A state of the reading, and both lent buffers with it.
 pub record Reached : Type 0 where
@@ -43,7 +43,7 @@ abbrev pub reached : State → (bytes ledger : List ℕ) → Reached
 reached s bytes ledger = record { state = s; bytes = bytes; ledger = ledger }
 
 -- A tick list read from tick 0 on into lent buffers.
-unfoldable pub readInto : Limits → List Lines → (bytes ledger : List ℕ) → Reached
+unfoldable pub readInto : Limits → List Tick → (bytes ledger : List ℕ) → Reached
 readInto L w bytes ledger =
     let handed = handedOver L firstState w in
     reached (stateAfter L firstState w) (values handed over bytes) (twoTicks handed over ledger)

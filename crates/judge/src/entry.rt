@@ -16,7 +16,7 @@ const LEDGER_ROOM: usize = 2000;
 
 // Judges one data transfer. Promised, first: the answer and both lent buffers, whole, are what `judged` gives. Second, demand 3: where the
 // recording is of good form, with enough room lent, it is complete with a string exactly if a sender and a receiver that keep their rules
-// give it, and the ledger shows the earliest such pair.
+// give it and no step is marked, and the ledger shows the earliest such pair.
 pub fn judge(file: &[u8], bytes: &mut [u8], ledger: &mut [u32]) -> Answer
     ensures { λ r. ⌜ JudgePromise standardLimits (now (file .entry)) (now (bytes .entry)) (now (ledger .entry))
         (leaves r (now (bytes .exit)) (now (ledger .exit))) ⌝ }

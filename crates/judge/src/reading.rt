@@ -6,6 +6,7 @@ use reader::State;
 use recording::Step;
 use transfer::Limits;
 use transfer::Lines;
+use transfer::Tick;
 
 // The state after the last tick, or at the deciding one. Each byte and its two ticks are stored as they are handed over.
 pub(crate) fn read(
@@ -23,11 +24,15 @@ pub(crate) fn read(
     let mut index: usize = 0;
     'steps: while index < steps {
         let step = Step::read(file, index);
-        let lines = Lines::of_byte(step.lines);
+        // The mark is the first tick's alone. A marked tick decides, so no later tick of a marked step is read.
+        let tick = Tick {
+            marked: step.marked(),
+            lines: Lines::of_byte(step.lines),
+        };
         let mut left = step.duration;
         while left > 0 {
             left -= 1;
-            let next = state.next(limits, lines);
+            let next = state.next(limits, tick);
             handed::store(bytes, ledger, state, next);
             state = next;
             if next.is_decided() {

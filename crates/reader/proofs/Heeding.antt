@@ -1,12 +1,13 @@
--- What ATN means, in two: by the rows, or the other way round. Assumes nothing.
+-- A tick where no verdict has fallen: a marked one, and one that ATN leaves to the rows or does not. Assumes nothing.
 use Rattle.answer.specs.Basics.{Bool, true, false, not, _≡_}
 use mathlib.Core.Bool.{false≢true}
 use mathlib.Core.Path.{refl, sym, ap, _∙_}
-use Rattle.answer.specs.Types.{Attention}
+use Rattle.answer.specs.Types.{Attention, Overrun}
 use Rattle.transfer.specs.Phases.{Stop, next}
 use Rattle.transfer.specs.Moves.{stage, released, heed, isDecided, move}
-use Rattle.transfer.specs.Types.{Entry, Plain, Command, Limits, Lines}
-use Rattle.transfer.proofs.Stages.{undecided-move}
+use Rattle.transfer.specs.Spans.{tick}
+use Rattle.transfer.specs.Types.{Entry, Plain, Command, Limits, Lines, Tick}
+use Rattle.transfer.proofs.Stages.{undecided-move, marked-move}
 use Rattle.reader.specs.States.{follow, readIn, isUnderWay, turnedIn, nextState}
 use Rattle.reader.specs.declared.state.State.{State}
 
@@ -29,14 +30,22 @@ pub turned-told : (L : Limits) (s : State) (l : Lines) {entry told : Entry} {r :
     → r ≡ turnedIn L s entry l
 turned-told L s l e f = f ∙ sym (ap (λ (n : Entry). turnedIn L s n l) e)
 
--- A tick where no verdict has fallen.
-module _ (L : Limits) (s : State) (l : Lines) (u : isDecided (s .phase) ≡ false) where
-  heeded : nextState L s l ≡ follow s (heed (L .entry) (l .atn) (Stop Attention) (next L (s .tick) (s .phase) (l .clk) (l .«data»))
+module _ (L : Limits) (s : State) (t : Tick) (u : isDecided (s .phase) ≡ false) where
+  pub by-mark : t .marked ≡ true → follow s (Stop Overrun) ≡ nextState L s t
+  unfolding nextState
+  by-mark e = ap (follow s) (sym (marked-move L (s .tick) (s .phase) t u e))
+
+module _ (L : Limits) (s : State) (t : Tick) (u : isDecided (s .phase) ≡ false) (unmarked : t .marked ≡ false) where
+  abbrev l : Lines
+  l = t .lines
+
+  heeded : nextState L s t ≡ follow s (heed (L .entry) (l .atn) (Stop Attention) (next L (s .tick) (s .phase) (l .clk) (l .«data»))
       (released L (s .tick) (stage (s .phase)) (l .clk) (l .«data»)))
   unfolding nextState
-  heeded = ap (follow s) (undecided-move L (s .tick) (s .phase) l u)
+  heeded =
+      ap (λ (m : Bool). nextState L s (tick m l)) unmarked ∙ ap (follow s) (undecided-move L (s .tick) (s .phase) l u)
 
-  pub by-rows : isUnderWay (L .entry) (l .atn) ≡ true → readIn L s (s .phase) l ≡ nextState L s l
+  pub by-rows : isUnderWay (L .entry) (l .atn) ≡ true → readIn L s (s .phase) l ≡ nextState L s t
   by-rows e = by-line (L .entry) (l .atn) e ∙ sym heeded
     where
       by-line : (entry : Entry) (atn : Bool) → isUnderWay entry atn ≡ true → readIn L s (s .phase) l ≡ follow s
@@ -47,7 +56,7 @@ module _ (L : Limits) (s : State) (l : Lines) (u : isDecided (s .phase) ≡ fals
       by-line Command true e = refl
       by-line Command false e = absurd (false≢true e)
 
-  pub by-turn : isUnderWay (L .entry) (l .atn) ≡ false → turnedIn L s (L .entry) l ≡ nextState L s l
+  pub by-turn : isUnderWay (L .entry) (l .atn) ≡ false → turnedIn L s (L .entry) l ≡ nextState L s t
   by-turn e = by-line (L .entry) (l .atn) e ∙ sym heeded
     where
       by-line : (entry : Entry) (atn : Bool) → isUnderWay entry atn ≡ false → turnedIn L s entry l ≡ follow s

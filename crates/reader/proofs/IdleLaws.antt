@@ -5,9 +5,10 @@ use mathlib.Core.Bool.{false≢true}
 use mathlib.Core.Path.{refl, sym, ap, subst⁻¹, _∙_}
 use borrow.Author.Tests.{lt-ltb, le-ltb, ltb-true, ltb-false, eq-eqb}
 use Rattle.transfer.specs.Moves.{Stage, stage, isDecided, released, heed, move}
+use Rattle.transfer.specs.Spans.{tick}
 use Rattle.transfer.specs.Phases.{below, Move, Go, Hand, Stop, next, same}
-use Rattle.transfer.specs.Types.{Entry, Plain, Command, Limits, Lines, Phase, Start, FirstHold, Hold, ReadyToSend, ReadyForData}
-use Rattle.transfer.specs.Types.{Acknowledgement, Acknowledged}
+use Rattle.transfer.specs.Types.{Entry, Plain, Command, Limits, Lines, Tick, Phase, Start, FirstHold, Hold, ReadyToSend}
+use Rattle.transfer.specs.Types.{ReadyForData, Acknowledgement, Acknowledged}
 use Rattle.transfer.specs.Types.{SetUp, Valid, Open, Carried, End, Finished, Decided}
 use Rattle.reader.specs.{States.follow, States.nextState, After.stateAfter, After.handedIn, After.handedOver}
 use Rattle.reader.specs.Idle.{ticksBelow, Lasts, always, until, lasts, ticksIn, idleTicks, later, Idle, IdleLaw}
@@ -116,7 +117,7 @@ kept-past L p c d now e = by-stage (told p)
     by-stage (is-decided fault r) = absurd (false≢true (sym (ap (λ (q : Phase). isPast (stage q)) r) ∙ e))
 
 kept : (L : Limits) (p : Phase) (l : Lines) (now most j : ℕ) → settled (L .entry) l p ≡ true → j < idleTicks L p now most
-    → move L (now + j) p l ≡ Go p
+    → move L (now + j) p (tick false l) ≡ Go p
 kept L p l now most j e h =
     undecided-move L (now + j) p l (undecided (L .entry) p l e) ∙ heeded (L .entry) (l .atn) (l .clk) (l .«data») e
   where
@@ -128,57 +129,60 @@ kept L p l now most j e h =
     heeded Command false c d e = kept-past L p c d (now + j) e
 
 -- A tick that decided nothing led to a phase that its lines are settled in.
-module _ (L : Limits) (s : State) (l : Lines) where
-  moved : {now : ℕ} {p : Phase} (x : Move) → Climbs now p (settled (L .entry) l) x → isDecided (follow s x .phase) ≡ false
-      → settled (L .entry) l (follow s x .phase) ≡ true
+module _ (L : Limits) (s : State) (t : Tick) where
+  moved : {now : ℕ} {p : Phase} (x : Move) → Climbs now p (settled (L .entry) (t .lines)) x → isDecided (follow s x .phase) ≡ false
+      → settled (L .entry) (t .lines) (follow s x .phase) ≡ true
   unfolding follow
   moved (Stop f) stops u = absurd (false≢true (sym u))
   moved (Go p) (goes m f e) u = e
   moved (Hand b p) (hands m f e held taken) u = e
 
-  pub led : isDecided (nextState L s l .phase) ≡ false → settled (L .entry) l (nextState L s l .phase) ≡ true
+  pub led : isDecided (nextState L s t .phase) ≡ false → settled (L .entry) (t .lines) (nextState L s t .phase) ≡ true
   unfolding nextState
-  led u = moved _ (climbs L (s .tick) (s .phase) l) u
+  led u = moved _ (climbs L (s .tick) (s .phase) t) u
 
 -- The same state at another tick.
 abbrev at-tick : State → ℕ → State
 at-tick s n = record { phase = s .phase; tick = n; count = s .count }
 
 -- A tick that keeps the phase.
-one-later : (L : Limits) (l : Lines) (s : State) (j : ℕ)
-    → move L (s .tick + j) (s .phase) l ≡ Go (s .phase) → nextState L (later s j) l ≡ later s (suc j)
+one-later : (L : Limits) (t : Tick) (s : State) (j : ℕ)
+    → move L (s .tick + j) (s .phase) t ≡ Go (s .phase) → nextState L (later s j) t ≡ later s (suc j)
 unfolding nextState follow
-one-later L l s j e = rw e (ap (at-tick s) (omega arith))
+one-later L t s j e = rw e (ap (at-tick s) (omega arith))
 
 -- Ticks that each keep the phase, one after another.
-idles : (L : Limits) (l : Lines) (k : ℕ) (s : State) → ((j : ℕ) → j < k → nextState L (later s j) l ≡ later s (suc j)) → Idle L s l k
+idles : (L : Limits) (l : Lines) (k : ℕ) (s : State)
+    → ((j : ℕ) → j < k → nextState L (later s j) (tick false l) ≡ later s (suc j)) → Idle L s l k
 unfolding stateAfter handedOver
 idles L l zero s e =
     let none : s ≡ later s 0 = ap (at-tick s) (omega arith) in
     record { state = λ w. ap (λ (t : State). stateAfter L t w) none; bytes = λ w. ap (λ (t : State). handedOver L t w) none }
 idles L l (suc k) s e =
     let none : s .tick + 0 ≡ s .tick = omega arith in
-    let first : nextState L s l ≡ later s 1 = ap (λ n. nextState L (at-tick s n) l) (sym none) ∙ e 0 (omega arith) in
-    let each : (j : ℕ) → j < k → nextState L (later (later s 1) j) l ≡ later (later s 1) (suc j) = λ j h.
-    ap (λ n. nextState L (at-tick s n) l) (omega arith) ∙ e (suc j) (omega arith) ∙ ap (at-tick s) (omega arith) in
+    let first : nextState L s (tick false l) ≡ later s 1 =
+    ap (λ n. nextState L (at-tick s n) (tick false l)) (sym none) ∙ e 0 (omega arith) in
+    let each : (j : ℕ) → j < k → nextState L (later (later s 1) j) (tick false l) ≡ later (later s 1) (suc j) = λ j h.
+    ap (λ n. nextState L (at-tick s n) (tick false l)) (omega arith) ∙ e (suc j) (omega arith) ∙ ap (at-tick s) (omega arith) in
     let rest = idles L l k (later s 1) each in
     let further : later (later s 1) k ≡ later s (suc k) = ap (at-tick s) (omega arith) in
     record {
       state = λ w.
-          ap (λ (t : State). stateAfter L t (replicate k l ++ w)) first
+          ap (λ (t : State). stateAfter L t (replicate k (tick false l) ++ w)) first
           ∙ rest .state w
           ∙ ap (λ (t : State). stateAfter L t w) further;
       bytes = λ w.
-          ap (λ (t : State). handedIn s t ++ handedOver L t (replicate k l ++ w)) first
+          ap (λ (t : State). handedIn s t ++ handedOver L t (replicate k (tick false l) ++ w)) first
           ∙ rw (eq-eqb (s .count) (s .count) refl) (rest .bytes w ∙ ap (λ (t : State). handedOver L t w) further);
     }
 
 pub idle-law : IdleLaw
-idle-law L s l most =
-    let t = nextState L s l in
+idle-law L s t most =
+    let after = nextState L s t in
+    let l = t .lines in
     record {
-      few = few-idle (lasts L (t .phase)) (t .tick) most;
+      few = few-idle (lasts L (after .phase)) (after .tick) most;
       idle = λ u.
-          let at = led L s l u in
-          idles L l _ t (λ j h. one-later L l t j (kept L (t .phase) l (t .tick) most j at h));
+          let at = led L s t u in
+          idles L l _ after (λ j h. one-later L (tick false l) after j (kept L (after .phase) l (after .tick) most j at h));
     }

@@ -7,7 +7,7 @@ use borrow.Author.Tests.{eq-eqb, ne-eqb}
 use Rattle.transfer.specs.Phases.{Move, Go, Hand, Stop}
 use Rattle.transfer.specs.Moves.{move, isDecided, heldByte, decisionOf}
 use Rattle.transfer.specs.Outcome.{Outcome, decided, give, onward, run}
-use Rattle.transfer.specs.Types.{Limits, Lines, Byte, Phase}
+use Rattle.transfer.specs.Types.{Limits, Lines, Tick, Byte, Phase}
 use Rattle.answer.specs.Types.{Fault}
 use Rattle.transfer.proofs.Stages.{undecided}
 use Rattle.transfer.proofs.Rows.{Climbs, stops, goes, hands, climbs, settled}
@@ -18,7 +18,7 @@ use Rattle.reader.proofs.TickLaws.{stands as decided-stands}
 
 module _ (L : Limits) where
   -- A verdict stands, whatever ticks follow.
-  stands : (f : Fault) (s : State) (w : List Lines) → outcomeFrom L (follow s (Stop f)) w ≡ decided f (s .tick)
+  stands : (f : Fault) (s : State) (w : List Tick) → outcomeFrom L (follow s (Stop f)) w ≡ decided f (s .tick)
   unfolding follow
   stands f s w =
       let same = decided-stands L (follow s (Stop f)) w refl in
@@ -26,29 +26,29 @@ module _ (L : Limits) where
       (same .bytes)
 
   -- The outcome where a tick led from s to t.
-  abbrev past : (s t : State) → List Lines → Outcome
+  abbrev past : (s t : State) → List Tick → Outcome
   past s t w = record { decision = outcomeFrom L t w .decision; bytes = handedIn s t ++ outcomeFrom L t w .bytes }
 
-  tick-read : (s t : State) (l : Lines) (w : List Lines) → nextState L s l ≡ t → outcomeFrom L s (l ∷ w) ≡ past s t w
+  tick-read : (s t : State) (l : Tick) (w : List Tick) → nextState L s l ≡ t → outcomeFrom L s (l ∷ w) ≡ past s t w
   unfolding stateAfter handedOver
   tick-read s t l w e = ap (λ (x : State). past s x w) e
 
   -- The byte that a tick handed over, by the counts.
-  none-handed : (s t : State) (w : List Lines) → t .count ≡ s .count → past s t w ≡ outcomeFrom L t w
+  none-handed : (s t : State) (w : List Tick) → t .count ≡ s .count → past s t w ≡ outcomeFrom L t w
   none-handed s t w e = rw (eq-eqb (t .count) (s .count) e)
 
-  one-handed : (s t : State) (w : List Lines) → (t .count ≡ s .count → ⊥) → past s t w ≡ give (heldByte (s .phase)) (outcomeFrom L t w)
+  one-handed : (s t : State) (w : List Tick) → (t .count ≡ s .count → ⊥) → past s t w ≡ give (heldByte (s .phase)) (outcomeFrom L t w)
   one-handed s t w e = rw (ne-eqb (t .count) (s .count) e)
 
-  stopped : (f : Fault) (s : State) (w : List Lines) → past s (follow s (Stop f)) w ≡ decided f (s .tick)
+  stopped : (f : Fault) (s : State) (w : List Tick) → past s (follow s (Stop f)) w ≡ decided f (s .tick)
   unfolding follow
   stopped f s w = none-handed s (follow s (Stop f)) w refl ∙ stands f s w
 
   -- In a state that is not decided, the outcome is the run from its tick and its phase.
-  abbrev Runs : List Lines → Type 0
+  abbrev Runs : List Tick → Type 0
   Runs w = (s : State) → isDecided (s .phase) ≡ false → outcomeFrom L s w ≡ run L (s .tick) (s .phase) w
 
-  module _ (w : List Lines) (ih : Runs w) (s : State) where
+  module _ (w : List Tick) (ih : Runs w) (s : State) where
     abbrev beyond : Phase → Outcome
     beyond p = run L (suc (s .tick)) p w
 
@@ -66,14 +66,14 @@ module _ (L : Limits) where
     moved l (Hand b p) (hands a f e held taken) =
         one-handed s (follow s (Hand b p)) w (λ z. omega (arith, z)) ∙ ap₂ give (sym held) (next-run p _ l e)
 
-    one-more : (l : Lines) → outcomeFrom L s (l ∷ w) ≡ onward (move L (s .tick) (s .phase) l) (s .tick) beyond
+    one-more : (t : Tick) → outcomeFrom L s (t ∷ w) ≡ onward (move L (s .tick) (s .phase) t) (s .tick) beyond
     unfolding nextState
-    one-more l = tick-read s (follow s (move L (s .tick) (s .phase) l)) l w refl ∙ moved l _ (climbs L (s .tick) (s .phase) l)
+    one-more t = tick-read s (follow s (move L (s .tick) (s .phase) t)) t w refl ∙ moved (t .lines) _ (climbs L (s .tick) (s .phase) t)
 
-  outcome-run : (w : List Lines) → Runs w
+  outcome-run : (w : List Tick) → Runs w
   unfolding run stateAfter handedOver
   outcome-run [] s u = refl
-  outcome-run (l ∷ w) s u = one-more w (outcome-run w) s l
+  outcome-run (t ∷ w) s u = one-more w (outcome-run w) s t
 
 pub outcome-states : OutcomeLaw
 outcome-states L w = sym (outcome-run L w firstState refl)

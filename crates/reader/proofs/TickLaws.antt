@@ -5,8 +5,10 @@ use mathlib.Core.Bool.{true≢false}
 use mathlib.Core.Path.{refl, sym, ap, subst, _∙_}
 use borrow.Author.Tests.{eqb-true, eqb-false, eq-eqb}
 use Rattle.transfer.specs.Phases.{Move, Go, Hand, Stop}
-use Rattle.transfer.specs.Moves.{hasFallen, isDecided, heldByte, move}
-use Rattle.transfer.specs.Types.{Limits, Lines, Byte, Phase}
+use Rattle.transfer.specs.Moves.{Stage, Running, Holding, Ended, Past, Fallen, stage, hasFallen, isDecided, unlessFallen, unlessMarked}
+use Rattle.transfer.specs.Moves.{heldByte, move}
+use Rattle.answer.specs.Types.{Overrun}
+use Rattle.transfer.specs.Types.{Limits, Tick, Byte, Phase}
 use Rattle.reader.specs.{States.follow, States.nextState, After.stateAfter, After.handedIn, After.handedOver}
 use Rattle.transfer.proofs.Rows.{Climbs, stops, goes, hands, climbs}
 use Rattle.transfer.proofs.Stages.{Told, is-running, is-holding, is-end, is-past, is-decided, told}
@@ -36,12 +38,12 @@ one-move s (Hand b p) (hands m f e held taken) =
     }
 one-move s (Stop f) stops = goes-on s _ (omega arith) refl
 
-pub one-tick : (L : Limits) (s : State) (l : Lines) → OneTick s (nextState L s l)
+pub one-tick : (L : Limits) (s : State) (l : Tick) → OneTick s (nextState L s l)
 unfolding nextState
 one-tick L s l = one-move s _ (climbs L (s .tick) (s .phase) l)
 
 -- The count rises by the bytes that are handed over.
-pub counts : (L : Limits) (w : List Lines) (s : State) → stateAfter L s w .count ≡ s .count + length (handedOver L s w)
+pub counts : (L : Limits) (w : List Tick) (s : State) → stateAfter L s w .count ≡ s .count + length (handedOver L s w)
 unfolding stateAfter handedOver
 counts L [] s = omega arith
 counts L (l ∷ w) s = by-test (eqb (nextState L s l .count) (s .count)) refl (counts L w (nextState L s l))
@@ -56,7 +58,7 @@ counts L (l ∷ w) s = by-test (eqb (nextState L s l .count) (s .count)) refl (c
         omega (arith, eqb-false (nextState L s l .count) (s .count) e, c .count-least, c .count-most)
 
 -- A verdict stands.
-pub no-change : (L : Limits) (s : State) (l : Lines) → isDecided (s .phase) ≡ true → nextState L s l ≡ s
+pub no-change : (L : Limits) (s : State) (l : Tick) → isDecided (s .phase) ≡ true → nextState L s l ≡ s
 unfolding nextState follow move
 no-change L s l u = by-stage (told (s .phase))
   where
@@ -70,12 +72,29 @@ no-change L s l u = by-stage (told (s .phase))
     by-stage (is-past finish r) = absurd (true≢false (sym u ∙ ap isDecided r))
     by-stage (is-decided fault r) = ap (λ (p : Phase). nextState L (in-phase p) l) r ∙ sym (ap in-phase r)
 
+-- A marked tick decides, if no verdict stands.
+pub marked-decides : (L : Limits) (s : State) (t : Tick) → t .marked ≡ true → isDecided (nextState L s t .phase) ≡ true
+unfolding nextState follow move
+marked-decides L s t e = by-mark (t .marked) _ e
+  where
+    by-stage : (g : Stage) → isDecided (follow s (unlessFallen g (Stop Overrun)) .phase) ≡ true
+    by-stage Running = refl
+    by-stage (Holding byte) = refl
+    by-stage (Ended finish) = refl
+    by-stage (Past finish) = refl
+    by-stage (Fallen fault) = refl
+
+    by-mark : (m : Bool) (does : Move) → m ≡ true
+        → isDecided (follow s (unlessFallen (stage (s .phase)) (unlessMarked m does)) .phase) ≡ true
+    by-mark true does e = by-stage (stage (s .phase))
+    by-mark false does e = absurd (true≢false (sym e))
+
 -- "Stops for good": no tick changes a decided state or hands a byte over, so a loop may leave at the deciding tick.
-pub record Stands (L : Limits) (s : State) (w : List Lines) : Type 0 where
+pub record Stands (L : Limits) (s : State) (w : List Tick) : Type 0 where
   pub state : stateAfter L s w ≡ s
   pub bytes : handedOver L s w ≡ []
 
-pub stands : (L : Limits) (s : State) (w : List Lines) → isDecided (s .phase) ≡ true → Stands L s w
+pub stands : (L : Limits) (s : State) (w : List Tick) → isDecided (s .phase) ≡ true → Stands L s w
 unfolding stateAfter handedOver
 stands L s [] u = record { state = refl; bytes = refl }
 stands L s (l ∷ w) u =

@@ -1,9 +1,9 @@
 -- Idle ticks: those that only add one to the tick. A row of the table that goes on leads to a phase that the same lines keep, until the
 -- phase's own limit: so the further ticks of a step can be passed over in one move.
 use Rattle.answer.specs.Basics.{ℕ, _+_, _-_, _≤_, false, List, _++_, replicate, _≡_, ltb, if_then_else_}
-use Rattle.transfer.specs.Moves.{isDecided}
-use Rattle.transfer.specs.Types.{Limits, Lines, Phase, Start, FirstHold, Hold, ReadyToSend, ReadyForData, Acknowledgement, Acknowledged}
-use Rattle.transfer.specs.Types.{SetUp, Valid, Open, Carried, End, Finished, Decided}
+use Rattle.transfer.specs.{Moves.isDecided, Spans.tick}
+use Rattle.transfer.specs.Types.{Limits, Lines, Tick, Phase, Start, FirstHold, Hold, ReadyToSend, ReadyForData, Acknowledgement}
+use Rattle.transfer.specs.Types.{Acknowledged, SetUp, Valid, Open, Carried, End, Finished, Decided}
 use Rattle.reader.specs.{States.nextState, After.stateAfter, After.handedOver}
 use Rattle.reader.specs.declared.state.State.{State}
 
@@ -44,10 +44,11 @@ idleTicks L phase now most = ticksIn (lasts L phase) now most
 abbrev pub later : State → (ticks : ℕ) → State
 later s ticks = record { phase = s .phase; tick = s .tick + ticks; count = s .count }
 
--- So many ticks with these lines are idle: whatever follows is read as from the same state so many ticks later, and they hand nothing over.
+-- So many unmarked ticks with these lines are idle: whatever follows is read as from the same state so many ticks later, and they hand
+-- nothing over.
 pub record Idle (L : Limits) (s : State) (l : Lines) (ticks : ℕ) : Type 0 where
-  pub state : (w : List Lines) → stateAfter L s (replicate ticks l ++ w) ≡ stateAfter L (later s ticks) w
-  pub bytes : (w : List Lines) → handedOver L s (replicate ticks l ++ w) ≡ handedOver L (later s ticks) w
+  pub state : (w : List Tick) → stateAfter L s (replicate ticks (tick false l) ++ w) ≡ stateAfter L (later s ticks) w
+  pub bytes : (w : List Tick) → handedOver L s (replicate ticks (tick false l) ++ w) ≡ handedOver L (later s ticks) w
 
 -- Of ticks that are counted after a tick: they are no more than were asked for, and idle if that tick decided nothing.
 pub record Counted (L : Limits) (s : State) (l : Lines) (most ticks : ℕ) : Type 0 where
@@ -56,5 +57,5 @@ pub record Counted (L : Limits) (s : State) (l : Lines) (most ticks : ℕ) : Typ
 
 abbrev pub IdleLaw : Type 0
 IdleLaw =
-    (L : Limits) (s : State) (l : Lines) (most : ℕ)
-    → let t = nextState L s l in Counted L t l most (idleTicks L (t .phase) (t .tick) most)
+    (L : Limits) (s : State) (t : Tick) (most : ℕ)
+    → let after = nextState L s t in Counted L after (t .lines) most (idleTicks L (after .phase) (after .tick) most)

@@ -3,7 +3,7 @@ use Rattle.answer.specs.Basics.{_+_, _^_, _<_, Bool, true, false}
 use Rattle.answer.specs.Types.{Attention}
 use Rattle.transfer.specs.Moves.{stage, noByte, finishing, released, heed, move}
 use Rattle.transfer.specs.Phases.{Move, Go, Hand, Stop, next}
-use Rattle.transfer.specs.Types.{Entry, Plain, Command, Limits, Lines, Phase, Start, Decided}
+use Rattle.transfer.specs.Types.{Entry, Plain, Command, Limits, Lines, Tick, Phase, Start, Decided}
 use Rattle.reader.specs.declared.state.State.{State}
 
 -- Before tick 0.
@@ -42,8 +42,8 @@ turnedIn L s Plain lines = follow s (Stop Attention)
 turnedIn L s Command lines = releasedIn L s (s .phase) lines
 
 -- One tick.
-unfoldable pub nextState : Limits → State → Lines → State
-nextState L s lines = follow s (move L (s .tick) (s .phase) lines)
+unfoldable pub nextState : Limits → State → Tick → State
+nextState L s tick = follow s (move L (s .tick) (s .phase) tick)
 
 -- The next tick and the next count are 32-bit numbers.
 pub record Countable (s : State) : Type 0 where

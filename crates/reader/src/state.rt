@@ -12,6 +12,7 @@ use transfer::Decision;
 use transfer::Limits;
 use transfer::Lines;
 use transfer::Phase;
+use transfer::Tick;
 
 // `tick` is the next tick to be read, or the deciding one; `count` bytes were handed over.
 pub struct State {
@@ -141,14 +142,18 @@ impl State {
         }
     }
 
-    // One tick. A verdict stands for good; then comes what ATN means.
-    pub fn next(self, limits: Limits, lines: Lines) -> State
+    // One tick. A verdict stands for good; then come ticks lost before it, and then what ATN means.
+    pub fn next(self, limits: Limits, tick: Tick) -> State
         requires { ⌜ Countable self ⌝ }
-        ensures { λ r. ⌜ r ≡ nextState limits self lines ⌝ }
+        ensures { λ r. ⌜ r ≡ nextState limits self tick ⌝ }
     {
         if self.is_decided() {
             return self;
         }
+        if tick.marked {
+            return self.stop(Fault::Overrun);
+        }
+        let lines = tick.lines;
         let entry = limits.entry;
         if is_under_way(entry, lines.atn) {
             return self.rows(limits, lines);

@@ -3,7 +3,7 @@ use Rattle.answer.specs.Basics.{ℕ, _≤_, _≡_, eqb, ltb, leb, differs}
 use native.Mathlib.Omega.{arith}
 use borrow.Author.Tests.{ltb-false, leb-false, eqb-false, le-ltb, lt-leb, eq-eqb, ne-eqb}
 use Rattle.recording.specs.{Types.Header, Types.Step, Types.Passed, Form.headerTest, Form.stepTest, GoodForm.GoodStep}
-use Rattle.recording.specs.Layout.{headerSize, goodVersion, mostSteps, lineBound, fileLength}
+use Rattle.recording.specs.Layout.{headerSize, goodVersion, mostSteps, lineBound, mark, fileLength}
 use Rattle.recording.proofs.Tests.{passed-on, same}
 
 pub record GoodHeader (h : Header) (size : ℕ) : Type 0 where
@@ -45,12 +45,12 @@ unfolding stepTest
 step-passed s e =
     let duration = passed-on (eqb (s .duration) 0) _ _ e in
     let lines = passed-on (leb lineBound (s .lines)) _ _ (duration .1) in
-    let last = passed-on (differs (s .last) 0) _ _ (lines .1) in
+    let last = passed-on (ltb mark (s .last)) _ _ (lines .1) in
     let some : s .duration ≡ 0 → ⊥ = eqb-false _ _ (duration .0) in
-    record { lasts = omega arith; four-bits = leb-false _ _ (lines .0); last-zero = same _ _ (last .0) }
+    record { lasts = omega arith; four-bits = leb-false _ _ (lines .0); mark-at-most = ltb-false _ _ (last .0) }
 
 pub good-step-passes : (s : Step) → GoodStep s → stepTest s ≡ Passed
 unfolding stepTest
 good-step-passes s good =
     let some : s .duration ≡ 0 → ⊥ = λ z. omega (arith, good .lasts, z) in
-    rw (ne-eqb (s .duration) 0 some, lt-leb lineBound (s .lines) (good .four-bits), eq-eqb (s .last) 0 (good .last-zero))
+    rw (ne-eqb (s .duration) 0 some, lt-leb lineBound (s .lines) (good .four-bits), le-ltb mark (s .last) (good .mark-at-most))

@@ -15,7 +15,7 @@ unfoldable pub headerBytes : Header → List ℕ
 headerBytes h =
     twoBytes (h .version) ++ (twoBytes (h .steps) ++ (fourBytes (h .offset) ++ (fourBytes (h .total) ++ fourBytes (h .length))))
 
--- "Duration .. in two bytes; lines in one byte ..; one zero byte."
+-- "Duration .. in two bytes; lines in one byte ..; one zero byte", or the mark.
 unfoldable pub stepBytes : Step → List ℕ
 stepBytes s = twoBytes (s .duration) ++ (s .lines ∷ s .last ∷ [])
 

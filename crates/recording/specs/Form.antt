@@ -1,7 +1,7 @@
 -- The refusals 1 to 8 of document 01, "tested in this order", each row's words beside its test.
 use Rattle.answer.specs.Basics.{ℕ, suc, List, [], _∷_, length, eqb, ltb, leb, differs, if_then_else_}
 use Rattle.recording.specs.Ticks.{stepsOf, totalTicks}
-use Rattle.recording.specs.Layout.{headerAt, headerSize, goodVersion, mostSteps, lineBound, fileLength}
+use Rattle.recording.specs.Layout.{headerAt, headerSize, goodVersion, mostSteps, lineBound, mark, fileLength}
 use Rattle.recording.specs.Types.{Header, Step, Test, Passed, Failed, Form, Good, Refused}
 use Rattle.answer.specs.Types.{ShortFile, WrongVersion, TooManySteps, WrongOffset, WrongLength, ZeroDuration, StrayBits, WrongTotal}
 
@@ -24,9 +24,9 @@ unfoldable pub stepTest : Step → Test
 stepTest s =
     -- 6: "a step of duration 0"
     if eqb (s .duration) 0 then Failed ZeroDuration else
-    -- 7: "a step with other line bits or a last byte not 0"
+    -- 7: a step with "other line bits or a last byte above 1" (#103)
     if leb lineBound (s .lines) then Failed StrayBits else
-    if differs (s .last) 0 then Failed StrayBits else
+    if ltb mark (s .last) then Failed StrayBits else
     Passed
 
 -- A failed test refuses the recording and names the step; where it passed, what follows decides.

@@ -1,13 +1,13 @@
 -- What holds of a recording of good form.
 use Rattle.answer.specs.Basics.{ℕ, _≤_, _<_, List, length, _≡_, _↔_}
 use Rattle.recording.specs.{Types.Good, Types.Step, Form.formOf, Ticks.ticksOf}
-use Rattle.recording.specs.Layout.{byteAt, headerAt, stepAt, headerSize, goodVersion, mostSteps, lineBound, fileLength}
+use Rattle.recording.specs.Layout.{byteAt, headerAt, stepAt, headerSize, goodVersion, mostSteps, lineBound, mark, fileLength}
 
 -- No refusal 6 or 7.
 pub record GoodStep (s : Step) : Type 0 where
   pub lasts : 1 ≤ s .duration
   pub four-bits : s .lines < lineBound
-  pub last-zero : s .last ≡ 0
+  pub mark-at-most : s .last ≤ mark
 
 -- Document 01's "of good form", as far as the refusals 1 to 8 go, in plain words: the header's fields are right, n is the step count,
 -- the file is the header and n steps, each good, and the total is the number of ticks.

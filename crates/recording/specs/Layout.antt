@@ -1,5 +1,5 @@
 -- Document 01, "Recording layout": a header of 16 bytes, then steps of 4 bytes each, little-endian.
-use Rattle.answer.specs.Basics.{ℕ, _+_, _*_, List, getD}
+use Rattle.answer.specs.Basics.{ℕ, _+_, _*_, Bool, List, getD, eqb}
 use Rattle.recording.specs.Types.{Header, Step}
 
 abbrev pub headerSize : ℕ
@@ -21,6 +21,13 @@ longestDuration = 65535
 -- Bits 0 to 3 are the lines (ATN, CLK, DATA, SRQ), so a byte with no other bit is below this.
 abbrev pub lineBound : ℕ
 lineBound = 16
+
+-- #103: "The recorder now marks a step before which ticks were lost: its last byte is 1."
+abbrev pub mark : ℕ
+mark = 1
+
+abbrev pub isMarked : Step → Bool
+isMarked s = eqb (s .last) mark
 
 -- Where step i begins.
 abbrev pub stepPlace : ℕ → ℕ
@@ -50,7 +57,7 @@ headerAt file =
       length = u32At file 12;
     }
 
--- "Duration .. in two bytes; lines in one byte ..; one zero byte."
+-- "Duration .. in two bytes; lines in one byte ..; one zero byte", or since #103 the mark.
 abbrev pub stepAt : List ℕ → ℕ → Step
 stepAt file i =
     record {

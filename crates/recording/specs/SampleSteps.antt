@@ -1,11 +1,15 @@
 -- Recordings written out as steps, and document 01's S1 so: its steps, and its whole file as it is printed there.
 use Rattle.answer.specs.Basics.{ℕ, zero, suc, List, [], _∷_, _++_}
-use Rattle.recording.specs.Types.{Step}
+use Rattle.recording.specs.{Types.Step, Layout.mark}
 
 -- A step, "as duration:lines".
 infix 90 _∶_
 abbrev pub _∶_ : (duration lines : ℕ) → Step
 d ∶ l = record { duration = d; lines = l; last = 0 }
+
+-- The same step with the recorder's mark: ticks were lost before it.
+abbrev pub lost : Step → Step
+lost s = record { duration = s .duration; lines = s .lines; last = mark }
 
 -- "70:2 60:0", so many times.
 abbrev pub zeros : (times : ℕ) → List Step

@@ -1,7 +1,7 @@
 // One step: the lines as they stand for a number of ticks.
 ghost use Rattle.answer.specs.Basics.{_+_, _≤_, length, _≡_};
 ghost use lib.Seq.{sets};
-ghost use Rattle.recording.specs.{Layout.stepAt, Layout.stepPlace, Layout.stepSize, Form.stepTest, FileOf.stepBytes};
+ghost use Rattle.recording.specs.{Layout.stepAt, Layout.stepPlace, Layout.stepSize, Layout.isMarked, Form.stepTest, FileOf.stepBytes};
 use crate::fields;
 use crate::header::Header;
 use crate::test::Test;
@@ -18,6 +18,9 @@ impl Step {
 
     // The lines are bits 0 to 3, so a byte with no other bit is below this.
     pub const LINE_BOUND: u8 = 16;
+
+    // The last byte of a step before which the recorder lost ticks; that of any other step is 0.
+    pub const MARK: u8 = 1;
 
     pub fn read(file: &[u8], index: usize) -> Step
         requires { ⌜ stepPlace index + stepSize ≤ length (now file) ⌝ }
@@ -42,6 +45,13 @@ impl Step {
         destination[at + 3] = self.last;
     }
 
+    // Whether ticks were lost before the step.
+    pub fn marked(self) -> bool
+        ensures { λ r. ⌜ r ≡ isMarked self ⌝ }
+    {
+        self.last == Step::MARK
+    }
+
     // Refusals 6 and 7.
     pub(crate) fn test(self) -> Test
         ensures { λ r. ⌜ r ≡ stepTest self ⌝ }
@@ -52,7 +62,7 @@ impl Step {
         if Step::LINE_BOUND <= self.lines {
             return Test::Failed(Refusal::StrayBits);
         }
-        if self.last != 0 {
+        if Step::MARK < self.last {
             return Test::Failed(Refusal::StrayBits);
         }
         Test::Passed

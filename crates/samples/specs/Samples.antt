@@ -1,11 +1,11 @@
--- Document 01, "Sample recordings": the starred ones, in its order, each judged as a whole file; a cut after a byte; every refusal; and
--- recordings for the command entry.
-use Rattle.answer.specs.Basics.{ℕ, _+_, List, [], _∷_, _++_, map, replicate, _≡_}
+-- Document 01, "Sample recordings": the starred ones, in its order, each judged as a whole file; a cut after a byte; every refusal;
+-- recordings for the command entry; and marked ones.
+use Rattle.answer.specs.Basics.{ℕ, zero, suc, _+_, List, [], _∷_, _++_, map, replicate, _≡_}
 use Rattle.answer.specs.{Types.Answer, Answers._over_}
 use Rattle.recording.specs.{Types.Step, FileOf.headerBytes, FileOf.fileOf}
-use Rattle.recording.specs.SampleSteps.{_∶_, zeros, s1With, s1, s80With, s1File}
+use Rattle.recording.specs.SampleSteps.{_∶_, lost, zeros, s1With, s1, s80With, s1File}
 use Rattle.transfer.specs.{Types.Limits, Limits.standardLimits, Limits.commandLimits, Spans.s1 as s1Spans, Spans.ticks}
-use Rattle.judge.specs.Judged.{Judged, leaves, tickLines, judged}
+use Rattle.judge.specs.Judged.{Judged, leaves, ticksShown, judged}
 
 -- A file and the buffers lent with it, the answer, and what the two buffers then begin with.
 pub data Sample : Type 0 where
@@ -95,7 +95,9 @@ refusals =
     -- 6 and 7 name the step; 6 comes before 7 in one step, and an earlier step before a later one.
     ∷ refuses (fileOf (200 ∶ 6 ∷ 0 ∶ 16 ∷ [])) [] [] 6 1
     ∷ refuses (fileOf (200 ∶ 6 ∷ 50 ∶ 16 ∷ 0 ∶ 4 ∷ [])) [] [] 7 1
-    ∷ refuses (fileOf (200 ∶ 6 ∷ 50 ∶ 4 ∷ record { duration = 60; lines = 0; last = 1 } ∷ [])) [] [] 7 2
+    ∷ refuses (fileOf (200 ∶ 6 ∷ 50 ∶ 4 ∷ record { duration = 60; lines = 0; last = 2 } ∷ [])) [] [] 7 2
+    -- A mark is no refusal, and does not stand in for one: other line bits are 7 in a marked step too.
+    ∷ refuses (fileOf (200 ∶ 6 ∷ lost (50 ∶ 16) ∷ [])) [] [] 7 1
     ∷ refuses (headerOnly 1 0 16 1 16) [] [] 8 0
     -- 9: 999 and 1,999 places.
     ∷ refuses s1File (replicate 999 0xA5) markedLedger 9 0
@@ -139,12 +141,45 @@ commands =
 abbrev pub commandsAsData : Sample
 commandsAsData = stops (listen 200 (20 ∶ 6 ∷ [])) 23 0 0
 
+-- #103. Step i of some steps, marked.
+abbrev pub losing : (i : ℕ) → List Step → List Step
+losing i [] = []
+losing zero (s ∷ steps) = lost s ∷ steps
+losing (suc i) (s ∷ steps) = s ∷ losing i steps
+
+-- 40 at the first tick of the marked step, which is named.
+abbrev pub overruns : List Sample
+overruns =
+    -- S1, marked at its first step, inside its byte, and where the byte waits to be handed over: it is not counted.
+    stops (losing 0 s1) 40 0 0
+    ∷ stops (losing 12 s1) 40 1050 12
+    ∷ stops (losing 23 s1) 40 1860 23
+    -- Where the end would begin, and after it, though the lines stay: the byte was handed over.
+    ∷ judges (losing 24 s1) (record { number = 40; tick = 1910; step = 24; count = 1 }) (0x41 ∷ []) (1630 ∷ 1660 ∷ [])
+    ∷ judges (s1 ++ (lost (5 ∶ 0) ∷ [])) (record { number = 40; tick = 2010; step = 25; count = 1 }) (0x41 ∷ []) (1630 ∷ 1660 ∷ [])
+    -- Too little room is refused before any tick is read.
+    ∷ refuses (fileOf (losing 0 s1)) (replicate 999 0xA5) markedLedger 9 0
+    -- Commands handed to this entry: before 23. An earlier verdict stands.
+    ∷ stops (losing 0 (listen 200 (1 ∶ 6 ∷ []))) 40 0 0
+    ∷ stops (listen 200 (lost (1 ∶ 6) ∷ [])) 23 0 0
+    ∷ []
+
+abbrev pub commandOverruns : List Sample
+commandOverruns =
+    -- In place of the finish, so that the last byte is not handed over; and after it.
+    judges (listen 200 (lost (1 ∶ 6) ∷ [])) (record { number = 40; tick = 2960; step = 41; count = 1 }) (0x28 ∷ []) (1350 ∷ 1380 ∷ [])
+    ∷ judges (listen 200 (1 ∶ 6 ∷ lost (50 ∶ 0) ∷ [])) (record { number = 40; tick = 2961; step = 42; count = 2 }) (0x28 ∷ 0x6F ∷ [])
+    (1350 ∷ 1380 ∷ 2730 ∷ 2760 ∷ [])
+    -- S1 handed to this entry: before 39.
+    ∷ stops (losing 0 s1) 40 0 0
+    ∷ []
+
 abbrev pub all : List Sample
-all = samples ++ (cutAfterByte ∷ commandsAsData ∷ refusals)
+all = samples ++ (cutAfterByte ∷ commandsAsData ∷ (refusals ++ overruns))
 
 pub record SamplesHold : Type 0 where
   pub plain : map (judgedSample standardLimits) all ≡ map expectedOf all
-  pub command : map (judgedSample commandLimits) commands ≡ map expectedOf commands
+  pub command : map (judgedSample commandLimits) (commands ++ commandOverruns) ≡ map expectedOf (commands ++ commandOverruns)
 
 -- S1's file is the one that document 01 prints.
 abbrev pub S1Printed : Type 0
@@ -152,4 +187,4 @@ S1Printed = fileOf s1 ≡ s1File
 
 -- Its steps mean the ticks that the crate transfer reads as S1.
 abbrev pub S1Ticks : Type 0
-S1Ticks = tickLines s1 ≡ ticks s1Spans
+S1Ticks = ticksShown s1 ≡ ticks s1Spans

@@ -7,7 +7,7 @@ use mathlib.Core.Path.{_≡_, refl, subst}
 use native.Mathlib.Decide.{ℕ-discrete}
 use lib.Dec.{eqb}
 use borrow.Author.Tests.{ne-eqb}
-use Rattle.second_judge.specs.Numbers.{Among, ending, finish, leading, leading-both, marked, stay, the-end}
+use Rattle.second_judge.specs.Numbers.{after-end-mark, Among, ending, finish, leading, leading-both, stay, the-end}
 use Rattle.second_judge.specs.Numbers.{standing, standing-one, while-reading}
 use Rattle.second_judge.specs.declared.entry.Entry.{Entry}
 use Rattle.second_judge.specs.declared.entry.Entry.the-variants.{Plain, Command}
@@ -46,10 +46,11 @@ of-each P (one ∷ others) n h (first, further) =
 -- ---- where the reading stands, and what a tick leads to
 
 -- in F and G what holds with the plain entry holds with the entry that is asked
-pub with-plain : (P : Entry → Type 0) (entry : Entry) (phase : ℕ) → Among marked phase
+pub with-plain : (P : Entry → Type 0) (entry : Entry) (phase : ℕ) → Among after-end-mark phase
     → Among (the-end ∷ standing entry) phase → P Plain → P entry
 with-plain P entry phase here stands plain =
-    let never = of-each (λ (n : ℕ). Among (the-end ∷ standing Command) n → ⊥) marked phase here ((λ h. h), ((λ h. h), tt)) in
+    let never =
+    of-each (λ (n : ℕ). Among (the-end ∷ standing Command) n → ⊥) after-end-mark phase here ((λ h. h), ((λ h. h), tt)) in
     by-entry (λ (e : Entry). Among (the-end ∷ standing e) phase → P e) (λ _. plain) (λ there. absurd (never there)) entry
     stands
 
@@ -82,10 +83,11 @@ by-rows-alone entry next leads =
           ((λ _. refl), ((λ h. absurd (no-finish h)), tt)) leads,
     )
 
--- 20 and 22 are no verdicts while the recording is read
-pub none-while-reading : (entry : Entry) (n : ℕ) → Among (while-reading entry) n → Among (20 ∷ 22 ∷ []) n → ⊥
+-- 20, 22 and 40 are no verdicts by what the lines show
+pub none-while-reading : (entry : Entry) (n : ℕ) → Among (while-reading entry) n → Among (20 ∷ 22 ∷ 40 ∷ []) n → ⊥
 none-while-reading entry n reads =
-    let neither : Each (λ (k : ℕ). Among (while-reading entry) k → ⊥) (20 ∷ 22 ∷ []) =
-    by-entry (λ (e : Entry). Each (λ (k : ℕ). Among (while-reading e) k → ⊥) (20 ∷ 22 ∷ []))
-    ((λ h. h), ((λ h. h), tt)) ((λ h. h), ((λ h. h), tt)) entry in
-    λ runs-out. of-each (λ (k : ℕ). Among (while-reading entry) k → ⊥) (20 ∷ 22 ∷ []) n runs-out neither reads
+    let others : List ℕ = 20 ∷ 22 ∷ 40 ∷ [] in
+    let none : Each (λ (k : ℕ). Among (while-reading entry) k → ⊥) others =
+    by-entry (λ (e : Entry). Each (λ (k : ℕ). Among (while-reading e) k → ⊥) others)
+    ((λ h. h), ((λ h. h), ((λ h. h), tt))) ((λ h. h), ((λ h. h), ((λ h. h), tt))) entry in
+    λ other. of-each (λ (k : ℕ). Among (while-reading entry) k → ⊥) others n other none reads

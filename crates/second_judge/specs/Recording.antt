@@ -18,12 +18,23 @@ step-count file = two-bytes file 2
 abbrev pub total-ticks : List ℕ → ℕ
 total-ticks file = four-bytes file 8
 
--- "Each step is 4 bytes: duration 1 to 65,535 in two bytes; lines in one byte ..; one zero byte."
+-- "Each step is 4 bytes: duration 1 to 65,535 in two bytes; lines in one byte"; and in the last byte #103's mark
 abbrev pub duration : List ℕ → ℕ → ℕ
 duration file step = two-bytes file (16 + 4 * step)
 
 abbrev pub lines : List ℕ → ℕ → ℕ
-lines file step = two-bytes file (16 + 4 * step + 2)
+lines file step = getD file (16 + 4 * step + 2) 0
+
+abbrev pub mark : List ℕ → ℕ → ℕ
+mark file step = getD file (16 + 4 * step + 3) 0
+
+-- "The recorder now marks a step before which ticks were lost: its last byte is 1." (#103)
+abbrev pub Marked : List ℕ → ℕ → Type 0
+Marked file step = mark file step ≡ 1
+
+-- none of the first steps is marked
+abbrev pub Unmarked : List ℕ → ℕ → Type 0
+Unmarked file steps = (step : ℕ) → step < steps → Marked file step → ⊥
 
 -- "bit 0 ATN, 1 CLK, 2 DATA": none of them is pulled; after the finish of #101 "only a pull of ATN matters"
 abbrev pub AtRest : Entry → ℕ → Type 0

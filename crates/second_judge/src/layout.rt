@@ -1,8 +1,8 @@
 // "Recording layout": a header of 16 bytes, then steps of 4 bytes, little-endian.
 ghost use mathlib.Core.Path.{_≡_};
-ghost use Prim.Native.Nat.{_+_, _*_, _/_, _%_, _≤_, _<_};
+ghost use Prim.Native.Nat.{_+_, _*_, _≤_, _<_};
 ghost use lib.ListN.{length};
-ghost use Rattle.second_judge.specs.Recording.{two-bytes, four-bytes, duration, lines};
+ghost use Rattle.second_judge.specs.Recording.{two-bytes, four-bytes, duration, lines, mark};
 
 pub const HEADER_BYTES: usize = 16;
 
@@ -15,9 +15,8 @@ pub const MOST_STEPS: u32 = 16000;
 
 pub const OFFSET: u32 = 16;
 
-// "Each step is 4 bytes: duration 1 to 65,535 in two bytes; lines in one byte; one zero byte": as one number, the
-// duration is what is left over by this, and the lines are how often it goes in, with the zero byte on top of them.
-pub const LINES_FROM: u32 = 65536;
+// #103: "The recorder now marks a step before which ticks were lost: its last byte is 1." The last byte of others is 0.
+pub const MARKED: u32 = 1;
 
 // The header's fields, by their first byte.
 pub const VERSION_AT: usize = 0;
@@ -46,8 +45,6 @@ pub fn two_bytes(file: &[u8], at: usize) -> u32
 pub fn four_bytes(file: &[u8], at: usize) -> u32
     requires { ⌜ at + 4 ≤ length (now file) ⌝ }
     ensures { λ r. ⌜ r ≡ four-bytes (now (file .entry)) at ⌝ }
-    ensures { λ r. ⌜ (r % 65536 ≡ two-bytes (now (file .entry)) at)
-        × (r / 65536 ≡ two-bytes (now (file .entry)) (at + 2)) ⌝ }
 {
     two_bytes(file, at) + 65536 * two_bytes(file, at + 2)
 }
@@ -60,10 +57,22 @@ pub fn length_for(steps: u32) -> u32
     OFFSET + STEP_BYTES * steps
 }
 
-// A step's 4 bytes as one number, of which the duration is the lower half.
-pub fn step_at(file: &[u8], step: u32) -> u32
+// "Each step is 4 bytes: duration 1 to 65,535 in two bytes; lines in one byte", and the last byte, #103's mark.
+pub struct Step {
+    pub duration: u32,
+    pub lines: u32,
+    pub mark: u32,
+}
+
+pub fn step_at(file: &[u8], step: u32) -> Step
     requires { ⌜ (step < 16000) × (20 + 4 * step ≤ length (now file)) ⌝ }
-    ensures { λ r. ⌜ (r % 65536 ≡ duration (now (file .entry)) step) × (r / 65536 ≡ lines (now (file .entry)) step) ⌝ }
+    ensures { λ r. ⌜ (r .duration ≡ duration (now (file .entry)) step) × (r .duration < 65536)
+        × (r .lines ≡ lines (now (file .entry)) step) × (r .mark ≡ mark (now (file .entry)) step) ⌝ }
 {
-    four_bytes(file, length_for(step) as usize)
+    let at = length_for(step) as usize;
+    Step {
+        duration: two_bytes(file, at),
+        lines: wide(file[at + 2]),
+        mark: wide(file[at + 3]),
+    }
 }

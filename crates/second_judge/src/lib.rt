@@ -1,5 +1,5 @@
-// A second judge of bus recordings, made from document 01 ("What is required and the exact rules") and request #101 of
-// document 02 ("Command transfers") alone.
+// A second judge of bus recordings, made from document 01 ("What is required and the exact rules") and the requests #101
+// ("Command transfers") and #103 ("Recorder overruns") of document 02 alone.
 // It goes by steps and durations: in each step the first tick is tried against the rows of the phase, and of the ticks
 // after it, which show the same lines, only the limit of the phase is asked. "A choice" marks the places where a
 // document was read in one of several ways.
@@ -37,8 +37,9 @@ pub struct Finding {
 
 // A refusal or a verdict of document 01. "Every refusal has tick 0 and count 0, .. and no lent byte or number changes":
 // of the lent memory it takes the lengths alone. A cut has the total of ticks and the number of steps, every other
-// verdict less of both, and a recording is complete only if its last step leaves the lines at rest. What the lent memory
-// holds beyond the count's places stays.
+// verdict less of both, and a recording is complete only if its last step leaves the lines at rest. Document 02's #103:
+// 40 is given at the first marked step unless another verdict falls before it. What the lent memory holds beyond the
+// count's places stays.
 pub fn judge_by_steps(file: &[u8], bytes: &mut [u8], ledger: &mut [u32]) -> Finding
     ensures { λ r. ⌜ Answered Entry.Plain r (now (file .entry)) (now (bytes .entry)) (now (bytes .exit))
         (now (ledger .entry)) (now (ledger .exit)) ⌝ }

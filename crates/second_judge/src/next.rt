@@ -1,4 +1,4 @@
-// What a tick leads to: each entry asks ATN first, and then the rows.
+// What a tick leads to, unless a mark has decided it (#103): each entry asks ATN first, and then the rows.
 ghost use mathlib.Core.{List._∷_, List._++_, Path._≡_};
 ghost use Rattle.second_judge.specs.Numbers.{Among, ending, leading, standing, stay, the-end};
 ghost use Rattle.second_judge.specs.Recording.{AtRest};

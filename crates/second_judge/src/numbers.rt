@@ -64,3 +64,6 @@ pub const MOVED_AFTER_THE_END: u32 = 37;
 pub const END_MARK_UNDER_ATTENTION: u32 = 38;
 
 pub const ATTENTION_RELEASED: u32 = 39;
+
+// The verdict of document 02's #103, recorder overruns: "The first tick of a marked step gives verdict 40".
+pub const OVERRUN: u32 = 40;

@@ -17,8 +17,8 @@ use crate::place::Place;
 use crate::storing;
 
 // Lines that stay as they are can turn the reading only in their first tick, so that the later ticks of a step are
-// asked for the phase's limit alone. That a step goes on with the lines of the one before changes nothing: its first
-// tick then is one more tick that stays. `before` has the lines of the tick before.
+// asked for the phase's limit alone. That a step goes on with the lines of the one before changes nothing, unless it is
+// marked: its first tick then is one more tick that stays. `before` has the lines of the tick before.
 pub fn read_steps(
     entry: Entry,
     file: &[u8],
@@ -37,23 +37,39 @@ pub fn read_steps(
     let mut tick: u32 = 0;
     let mut step: u32 = 0;
     while step < steps {
-        let word = layout::step_at(file, step);
-        let lines = word / layout::LINES_FROM;
-        let end = tick + word % layout::LINES_FROM;
+        let read = layout::step_at(file, step);
+        if read.mark == layout::MARKED {
+            return overrun(tick, step, count);
+        }
+        let end = tick + read.duration;
         let offset = tick - place.since;
-        let next = next::next(entry, place.phase, offset, lines, before, byte);
+        let next = next::next(entry, place.phase, offset, read.lines, before, byte);
         count = storing::hand_over(next, byte.value, place, count, bytes, ledger);
-        byte = byte::after(byte, next, lines);
+        byte = byte::after(byte, next, read.lines);
         place = place::after(place, next, tick, step);
         let found = patience::found_in(entry, place, count, step, end);
         if found.number != numbers::NONE {
             return found;
         }
-        before = lines;
+        before = read.lines;
         tick = end;
         step += 1;
     }
     ran_out(place, tick, steps, count)
+}
+
+// #103: "The first tick of a marked step gives verdict 40, before ATN is looked at, also in E, at tick 0 and after #101's
+// finish."
+// A choice: so before the phase's rows and limits too, and a byte that this tick would have handed over is not.
+fn overrun(tick: u32, step: u32, count: u32) -> Finding
+    ensures { λ r. ⌜ (r .number ≡ 40) × (r .tick ≡ tick) × (r .step ≡ step) × (r .count ≡ count) ⌝ }
+{
+    Finding {
+        number: numbers::OVERRUN,
+        tick,
+        step,
+        count,
+    }
 }
 
 // "The recording running out gives 20 in E, 22 anywhere else." "20: the finish tick; 22: total ticks and n." #101:

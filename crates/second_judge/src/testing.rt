@@ -20,9 +20,9 @@ pub fn test_steps(file: &[u8], steps: u32, room_refusal: u32) -> Tested
     let mut total: u32 = 0;
     let mut step: u32 = 0;
     while step < steps {
-        let word = layout::step_at(file, step);
-        let duration = word % layout::LINES_FROM;
-        let number = step_refusal(duration, word / layout::LINES_FROM);
+        let read = layout::step_at(file, step);
+        let duration = read.duration;
+        let number = step_refusal(duration, read.lines, read.mark);
         if number != numbers::NONE {
             return refusals::refused(number, step);
         }
@@ -39,14 +39,17 @@ pub fn test_steps(file: &[u8], steps: u32, room_refusal: u32) -> Tested
     }
 }
 
-// Rows 6 and 7 of the table, for one step. A last byte that is not 0 is on top of the lines.
-fn step_refusal(duration: u32, lines: u32) -> u32
+// Rows 6 and 7 of the table, for one step. #103: "Refusal 7 now means other line bits or a last byte above 1."
+fn step_refusal(duration: u32, lines: u32, mark: u32) -> u32
     ensures { λ r. ⌜ Among (0 ∷ refusals) r × (r ≡ 0 → 0 < duration) ⌝ }
 {
     if duration == 0 {
         return numbers::DURATION_ZERO;
     }
     if lines::ALL_FOUR < lines {
+        return numbers::OTHER_BITS;
+    }
+    if layout::MARKED < mark {
         numbers::OTHER_BITS
     } else {
         numbers::NONE

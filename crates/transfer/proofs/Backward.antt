@@ -8,17 +8,16 @@ use borrow.Author.Tests.{ltb-true, ltb-false, leb-true, leb-false}
 use Rattle.transfer.specs.{Rules.PlanRules, Demand3.Consistent}
 use Rattle.transfer.specs.Phases.{below, upTo, Move, Go, Stop, next, same, withBit, handover, afterBit}
 use Rattle.transfer.specs.Moves.{cutAt, Stage, Running, Holding, Ended, Past, Fallen, stage, finishing, released, heed}
-use Rattle.transfer.specs.Moves.{unlessFallen, move}
-use Rattle.transfer.specs.Moves.{decisionIn}
+use Rattle.transfer.specs.{Moves.unlessFallen, Moves.unlessMarked, Moves.move, Moves.decisionIn, Spans.tick}
 use Rattle.transfer.specs.Outcome.{Outcome, decided, ended, give, onward, run}
 use Rattle.transfer.specs.Parties.{Pulls, underWay, nobody, held, clock, clockHeld, sets, offers, Free, finishTick, freeTick}
 use Rattle.transfer.specs.Parties.{Plan, track}
 use Rattle.transfer.specs.Parties.{sendingBytes, planBytes}
-use Rattle.transfer.specs.Types.{Entry, Plain, Command, Limits, Lines, Byte, Phase, Start, FirstHold, Hold, ReadyToSend}
+use Rattle.transfer.specs.Types.{Entry, Plain, Command, Limits, Tick, Byte, Phase, Start, FirstHold, Hold, ReadyToSend}
 use Rattle.transfer.specs.Types.{ReadyForData, Acknowledgement}
 use Rattle.transfer.specs.Types.{Acknowledged, SetUp, Valid, Open, Carried, End, Finished, Decided}
 use Rattle.answer.specs.Types.{Fault, Attention, ClockStall, Verdict, Complete, Cut, Broken}
-use Rattle.transfer.proofs.{Rows.lines, Rows.goingOn, Forward.shows, Plans.sends}
+use Rattle.transfer.proofs.{Rows.lines, Rows.unmarked, Rows.goingOn, Forward.shows, Plans.sends}
 use Rattle.transfer.proofs.Stages.{Told, is-running, is-holding, is-end, is-past, is-decided, told}
 use Rattle.transfer.proofs.Shapes.{clockKept, leaves, stay, one, many, Tidy, Frees, releases, finishes, opens, carries, Shape}
 
@@ -87,13 +86,13 @@ module _ (L : Limits) where
   InTime (Decided fault) now = Unit {0}
 
   -- The ticks from a phase on are given by tracks of the phase's shape.
-  record From (p : Phase) (now : ℕ) (w : List Lines) (l : List Byte) : Type 0 where
+  record From (p : Phase) (now : ℕ) (w : List Tick) (l : List Byte) : Type 0 where
     js : List Pulls
     gives : w ≡ map (shows L) js
     shape : Shape L p now js l
 
   -- One tick j, by which a phase leads to another or stays, or hands a byte over.
-  module _ (j : Pulls) {p q : Phase} {now : ℕ} {w : List Lines} where
+  module _ (j : Pulls) {p q : Phase} {now : ℕ} {w : List Tick} where
     comes-first : {l l′ : List Byte} → ((js : List Pulls) → Shape L q (suc now) js l → Shape L p now (j ∷ js) l′)
         → From q (suc now) w l → From p now (shows L j ∷ w) l′
     comes-first f r = record { js = j ∷ r .js; gives = ap (λ x. shows L j ∷ x) (r .gives); shape = f (r .js) (r .shape) }
@@ -106,12 +105,12 @@ module _ (L : Limits) where
         → Sound (From q (suc now) w) o → Sound (From p now (shows L j ∷ w)) (give b o)
     hands b f s = record { prove = λ h. comes-first (λ js. f js _) (s .prove h) }
 
-  abbrev Holds : List Lines → Type 0
+  abbrev Holds : List Tick → Type 0
   Holds w = (now : ℕ) (p : Phase) → InTime p now → Sound (From p now w) (run L now p w)
 
   abbrev Row : Phase → (clk dat : Bool) → Type 0
   Row p c d =
-      (now : ℕ) (w : List Lines) → Holds w → InTime p now
+      (now : ℕ) (w : List Tick) → Holds w → InTime p now
       → Sound (From p now (goingOn L c d ∷ w)) (onward (next L now p c d) now (λ (q : Phase). run L (suc now) q w))
 
   row-start : (c d : Bool) → Row Start c d
@@ -163,21 +162,21 @@ module _ (L : Limits) where
   -- A tick of commands with ATN released: the finish, or one after it.
   abbrev Released : Phase → (clk dat : Bool) → Type 0
   Released p c d =
-      (now : ℕ) (w : List Lines) → Holds w
-      → Sound (From p now (lines false c d ∷ w)) (onward (released L now (stage p) c d) now (λ (q : Phase). run L (suc now) q w))
+      (now : ℕ) (w : List Tick) → Holds w
+      → Sound (From p now (unmarked false c d ∷ w)) (onward (released L now (stage p) c d) now (λ (q : Phase). run L (suc now) q w))
 
   module _ (command : L .entry ≡ Command) where
     -- The finish, in a phase that holds the byte b.
-    finishes-in : (p : Phase) (b : Byte) (now : ℕ) (w : List Lines) → Holds w
+    finishes-in : (p : Phase) (b : Byte) (now : ℕ) (w : List Tick) → Holds w
         → (b .take + L .«between_bytes» ≤ now → (js : List Pulls) (l : List Byte) → Frees L (suc now) js l
         → Shape L p now (finishTick ∷ js) (b ∷ l))
-        → (c d : Bool) → Sound (From p now (lines false c d ∷ w))
+        → (c d : Bool) → Sound (From p now (unmarked false c d ∷ w))
         (onward (finishing (below (L .«between_bytes») (b .take) now) now b c d) now (λ (q : Phase). run L (suc now) q w))
     unfolding finishing below
     finishes-in p b now w ih shape c d = by-test (ltb now (b .take + L .«between_bytes»)) refl c d
       where
         by-test : (t : Bool) → ltb now (b .take + L .«between_bytes») ≡ t → (c d : Bool)
-            → Sound (From p now (lines false c d ∷ w)) (onward (finishing t now b c d) now (λ (q : Phase). run L (suc now) q w))
+            → Sound (From p now (unmarked false c d ∷ w)) (onward (finishing t now b c d) now (λ (q : Phase). run L (suc now) q w))
         by-test false e true true =
             hands finishTick b (shape (ltb-false now (b .take + L .«between_bytes») e)) (ih (suc now) (Finished now) tt)
         by-test false e true false = dead _ _ _
@@ -185,7 +184,7 @@ module _ (L : Limits) where
         by-test true e c d = dead _ _ _
 
     -- Any DATA pull after the finish can be the receiver's.
-    receives : (x : Free) (f : ℕ) → x .sender ≡ false → (now : ℕ) (w : List Lines) → Holds w
+    receives : (x : Free) (f : ℕ) → x .sender ≡ false → (now : ℕ) (w : List Tick) → Holds w
         → Sound (From (Finished f) now (shows L (freeTick x) ∷ w)) (run L (suc now) (Finished f) w)
     receives x f off now w ih =
         goes (freeTick x)
@@ -272,7 +271,7 @@ module _ (L : Limits) where
         if-below _ _ _ _ _ _ _ (λ a. goes nobody (λ js l h. stay h) (ih (suc now) (Acknowledged true s ready-tick) tt))
 
     -- The last set-up tick shows b, and the first valid tick too.
-    to-valid : (end-mark : Bool) (bits-left value s : ℕ) (b : Bool) (now : ℕ) (w : List Lines) → Holds w
+    to-valid : (end-mark : Bool) (bits-left value s : ℕ) (b : Bool) (now : ℕ) (w : List Tick) → Holds w
         → InTime (SetUp end-mark value b s bits-left) now
         → Sound (From (SetUp end-mark value b s bits-left) now (goingOn L false b ∷ w))
         (run L (suc now) (Valid end-mark value b now bits-left) w)
@@ -303,7 +302,7 @@ module _ (L : Limits) where
     row-set-up end-mark bits-left value s true false false now w ih i = dead _ _ _
     row-set-up end-mark bits-left value s false false true now w ih i = dead _ _ _
 
-    on-valid : (end-mark : Bool) (bits-left value s : ℕ) (b : Bool) (now : ℕ) (w : List Lines) → Holds w
+    on-valid : (end-mark : Bool) (bits-left value s : ℕ) (b : Bool) (now : ℕ) (w : List Tick) → Holds w
         → InTime (Valid end-mark value b s bits-left) now
         → Sound (From (Valid end-mark value b s bits-left) now (goingOn L false b ∷ w))
         (onward (if below (L .«valid_most») s now then Go (Valid end-mark value b s bits-left)
@@ -376,44 +375,48 @@ module _ (L : Limits) where
             (record { prove = λ h. record { js = []; gives = refl; shape = record { after = []; tidy = tt; is = refl; bytes = refl } } })
         by-stage (is-decided fault r) = subst⁻¹ (λ (q : Phase). Sound (From q now []) (ended q now)) r (dead _ _ _)
 
-    one-more : (p : Phase) (now : ℕ) (w : List Lines) (a c d : Bool) → Holds w → InTime p now
-        → Sound (From p now (lines a c d ∷ w)) (run L now p (lines a c d ∷ w))
+    one-more : (p : Phase) (now : ℕ) (w : List Tick) (m a c d : Bool) → Holds w → InTime p now
+        → Sound (From p now (tick m (lines a c d) ∷ w)) (run L now p (tick m (lines a c d) ∷ w))
     unfolding run move
-    one-more p now w a c d ih i = by-stage (stage p) (heeded (L .entry) a) (by-entry (L .entry) refl a)
+    one-more p now w m a c d ih i = by-stage (stage p) _ (by-mark m)
       where
-        Reads : (atn : Bool) → Move → Type 0
-        Reads atn does = Sound (From p now (lines atn c d ∷ w)) (onward does now (λ (q : Phase). run L (suc now) q w))
+        Reads : (m atn : Bool) → Move → Type 0
+        Reads m atn does = Sound (From p now (tick m (lines atn c d) ∷ w)) (onward does now (λ (q : Phase). run L (suc now) q w))
 
         heeded : Entry → (atn : Bool) → Move
         heeded entry atn = heed entry atn (Stop Attention) (next L now p c d) (released L now (stage p) c d)
 
-        by-entry : (entry : Entry) → L .entry ≡ entry → (atn : Bool) → Reads atn (heeded entry atn)
+        by-entry : (entry : Entry) → L .entry ≡ entry → (atn : Bool) → Reads false atn (heeded entry atn)
         by-entry Plain e true = dead _ _ _
-        by-entry Plain e false = subst (λ (entry : Entry). Reads (underWay entry) (next L now p c d)) e (row p c d now w ih i)
-        by-entry Command e true = subst (λ (entry : Entry). Reads (underWay entry) (next L now p c d)) e (row p c d now w ih i)
+        by-entry Plain e false = subst (λ (entry : Entry). Reads false (underWay entry) (next L now p c d)) e (row p c d now w ih i)
+        by-entry Command e true = subst (λ (entry : Entry). Reads false (underWay entry) (next L now p c d)) e (row p c d now w ih i)
         by-entry Command e false = released-in e p c d now w ih
 
-        by-stage : (g : Stage) (does : Move) → Reads a does → Reads a (unlessFallen g does)
+        by-mark : (m : Bool) → Reads m a (unlessMarked m (heeded (L .entry) a))
+        by-mark true = dead _ _ _
+        by-mark false = by-entry (L .entry) refl a
+
+        by-stage : (g : Stage) (does : Move) → Reads m a does → Reads m a (unlessFallen g does)
         by-stage Running does here = here
         by-stage (Holding byte) does here = here
         by-stage (Ended finish) does here = here
         by-stage (Past finish) does here = here
         by-stage (Fallen fault) does here = dead _ _ _
 
-    sound : (w : List Lines) → Holds w
+    sound : (w : List Tick) → Holds w
     unfolding run
     sound [] now p i = runs-out p now
-    sound (l ∷ w) now p i = one-more p now w (l .atn) (l .clk) (l .«data») (sound w) i
+    sound (t ∷ w) now p i = one-more p now w (t .marked) (t .lines .atn) (t .lines .clk) (t .lines .«data») (sound w) i
 
     -- A plan that keeps the rules gives the ticks, and its bytes and ticks are these.
-    pub record Planned (w : List Lines) (l : List Byte) : Type 0 where
+    pub record Planned (w : List Tick) (l : List Byte) : Type 0 where
       pub plan : Plan
       pub rules : PlanRules L plan
       pub tidy : Tidy (plan .sending)
       pub gives : w ≡ map (shows L) (track plan)
       pub bytes : l ≡ planBytes plan
 
-    planned : (w : List Lines) (l : List Byte) → From Start 0 w l → Planned w l
+    planned : (w : List Tick) (l : List Byte) → From Start 0 w l → Planned w l
     planned w l f =
         let a = f .shape in
         let h = many (a .after .1) in
@@ -439,5 +442,5 @@ module _ (L : Limits) where
         }
 
     -- A complete run is given by a plan whose bytes and ticks are the judge's.
-    pub back : (w : List Lines) → run L 0 Start w .decision .verdict ≡ Complete → Planned w (run L 0 Start w .bytes)
+    pub back : (w : List Tick) → run L 0 Start w .decision .verdict ≡ Complete → Planned w (run L 0 Start w .bytes)
     back w e = planned w _ (sound w 0 Start (omega arith) .prove (subst⁻¹ IsComplete e tt))

@@ -4,20 +4,21 @@ use Rattle.answer.specs.Basics.{ℕ, suc, _+_, _*_, _^_, _≤_, _<_, Bool, true
 use native.Mathlib.{Omega.arith, Nat.pow-suc}
 use mathlib.Core.Path.{refl, sym, ap, _∙_, subst}
 use borrow.Author.Needs.{needs}
-use Rattle.transfer.specs.{Types.Entry, Types.Plain, Types.Command, Types.Limits, Types.Lines, Types.Phase, Types.Start}
+use Rattle.transfer.specs.{Types.Entry, Types.Plain, Types.Command, Types.Limits, Types.Tick, Types.Phase, Types.Start}
 use Rattle.transfer.specs.{Limits.standardLimits, Limits.commandLimits, Outcome.onward, Outcome.run, Outcome.outcome}
-use Rattle.transfer.specs.{Demand3.Explains}
-use Rattle.transfer.specs.{Demand3.CompleteWith, Moves.stage, Moves.finishing, Moves.released, Moves.heed, Moves.move}
-use Rattle.transfer.specs.Spans.{_∶_, ticks, s1, listen}
+use Rattle.transfer.specs.{Demand3.Explains, Spans.tick}
+use Rattle.transfer.specs.{Demand3.CompleteWith, Moves.stage, Moves.finishing, Moves.released, Moves.heed}
+use Rattle.transfer.specs.{Moves.unlessMarked, Moves.move}
+use Rattle.transfer.specs.Spans.{linesIn, _∶_, ticks, s1, listen}
 use Rattle.transfer.specs.Phases.{Stop, below, upTo, next, same, withBit, handover, afterBit}
 use Rattle.transfer.specs.Parties.{Bit, Frame, Free, Plan, Sending, more, last, lastCommand, valueOf, sendingBytes, planBytes}
 use Rattle.transfer.specs.Rules.{BitRule, FrameRules, SendingRules, PlanRules}
 use Rattle.transfer.specs.Pair.{senderTrack, receiverTrack, attentionTrack, gives, values}
-use Rattle.transfer.specs.Facts.{AllBytes, SomeBytes, PairSendsBytes, S1Explained, oneTick, frame80}
+use Rattle.transfer.specs.Facts.{AllBytes, SomeBytes, PairSendsBytes, S1Explained, s1Lost, LostThoughExplained, oneTick, frame80}
 use Rattle.transfer.specs.Facts.{Explains80, byte80, TwoPairs, ListenExplained, command80, receiverAfter, senderAfter}
 use Rattle.transfer.specs.Facts.{FreeAfterFinish, NeverBoth}
 use Rattle.answer.specs.Types.{Attention, AttentionReleased, Verdict, Complete, Cut, Broken}
-use Rattle.transfer.proofs.Demand3.{standard-demand3, command-demand3}
+use Rattle.transfer.proofs.{Rows.lines, Demand3.standard-demand3, Demand3.command-demand3}
 
 -- A pair is for a string of one or more bytes, each below 256.
 sends-one : (now : ℕ) (s : Sending) → 1 ≤ length (values (sendingBytes now s))
@@ -56,7 +57,12 @@ unfolding below upTo next same withBit handover afterBit move run
 s1-complete = record { verdict = refl; bytes = refl }
 
 pub s1-explained : S1Explained
-s1-explained = standard-demand3 (ticks s1) .exactly (0x41 ∷ []) .0 s1-complete
+s1-explained = standard-demand3 (ticks s1) .exactly (0x41 ∷ []) .0 s1-complete .0
+
+-- The same lines, with ticks lost.
+pub lost-though-explained : LostThoughExplained
+unfolding below upTo next same withBit handover afterBit move run
+lost-though-explained = record { has-pair = s1-explained; is-broken = refl }
 
 -- The byte 0x80 keeps the rules, at document 01's times for bits and handover.
 module _ (L : Limits) (set-up : L .«set_up_most» ≡ 200) (valid-least : L .«valid_least» ≡ 20) (valid-most : L .«valid_most» ≡ 200)
@@ -119,7 +125,7 @@ unfolding below upTo next same withBit handover afterBit finishing move run
 listen-complete = record { verdict = refl; bytes = refl }
 
 pub listen-explained : ListenExplained
-listen-explained = command-demand3 (ticks (listen 200 ++ (1 ∶ 6 ∷ 9 ∶ 4 ∷ []))) .exactly (0x28 ∷ 0x6F ∷ []) .0 listen-complete
+listen-explained = command-demand3 (ticks (listen 200 ++ (1 ∶ 6 ∷ 9 ∶ 4 ∷ []))) .exactly (0x28 ∷ 0x6F ∷ []) .0 listen-complete .0
 
 -- Both tracks are free after the finish.
 command80-keeps : (after : Free) → PlanRules commandLimits (command80 after)
@@ -144,13 +150,14 @@ free-after-finish =
       sender-pulls = explains80 commandLimits (command80 receiverAfter) _ (command80-keeps senderAfter) refl refl;
     }
 
--- Tick 0 has ATN pulled or released, and one of the entries stops there.
-stops-at-once : (L : Limits) (entry : Entry) (a c d : Bool) (w : List Lines) → L .entry ≡ entry
-    → run L 0 Start (record { atn = a; clk = c; «data» = d } ∷ w)
-    ≡ onward (heed entry a (Stop Attention) (next L 0 Start c d) (Stop AttentionReleased)) 0 (λ (q : Phase). run L 1 q w)
+-- Tick 0 has ATN pulled or released, or is marked, and one of the entries stops there.
+stops-at-once : (L : Limits) (entry : Entry) (m a c d : Bool) (w : List Tick) → L .entry ≡ entry
+    → run L 0 Start (tick m (lines a c d) ∷ w)
+    ≡ onward (unlessMarked m (heed entry a (Stop Attention) (next L 0 Start c d) (Stop AttentionReleased))) 0 (λ (q : Phase). run L 1 q w)
 unfolding run move
-stops-at-once L entry a c d w e =
-    ap (λ (n : Entry). onward (heed n a (Stop Attention) (next L 0 Start c d) (Stop AttentionReleased)) 0 (λ (q : Phase). run L 1 q w)) e
+stops-at-once L entry m a c d w e =
+    ap (λ (n : Entry).
+    onward (unlessMarked m (heed n a (Stop Attention) (next L 0 Start c d) (Stop AttentionReleased))) 0 (λ (q : Phase). run L 1 q w)) e
 
 abbrev IsComplete : Verdict → Type 0
 IsComplete Complete = Unit {0}
@@ -160,10 +167,12 @@ IsComplete (Broken f) = ⊥
 pub never-both : NeverBoth
 unfolding run
 never-both L M [] p c x y = subst IsComplete (sym x) tt
-never-both L M (l ∷ w) p c x y = by-atn (l .atn) (l .clk) (l .«data») x y
+never-both L M (t ∷ w) p c x y = by-atn (t .marked) (t .lines .atn) (t .lines .clk) (t .lines .«data») x y
   where
-    by-atn : (a b d : Bool)
-        → let l : Lines = record { atn = a; clk = b; «data» = d } in
-        outcome L (l ∷ w) .decision .verdict ≡ Complete → outcome M (l ∷ w) .decision .verdict ≡ Complete → ⊥
-    by-atn true b d x y = subst IsComplete (sym x ∙ ap (λ o. o .decision .verdict) (stops-at-once L Plain true b d w p)) tt
-    by-atn false b d x y = subst IsComplete (sym y ∙ ap (λ o. o .decision .verdict) (stops-at-once M Command false b d w c)) tt
+    by-atn : (m a b d : Bool)
+        → let t = tick m (lines a b d) in
+        outcome L (t ∷ w) .decision .verdict ≡ Complete → outcome M (t ∷ w) .decision .verdict ≡ Complete → ⊥
+    by-atn true a b d x y = subst IsComplete (sym x ∙ ap (λ o. o .decision .verdict) (stops-at-once L Plain true a b d w p)) tt
+    by-atn false true b d x y = subst IsComplete (sym x ∙ ap (λ o. o .decision .verdict) (stops-at-once L Plain false true b d w p)) tt
+    by-atn false false b d x y =
+        subst IsComplete (sym y ∙ ap (λ o. o .decision .verdict) (stops-at-once M Command false false b d w c)) tt

@@ -15,18 +15,18 @@ use Rattle.transfer.specs.Parties.{Sending, more, last, lastCommand, Pla
 use Rattle.transfer.specs.Parties.{bitsTrack, frameTrack, sendingTrack, track, bitsTicks, byteOf, afterFrame, sendingBytes, planBytes}
 use Rattle.transfer.specs.Rules.{lastOf, FirstTakeRule, FirstReleaseRule, LetGoRule, EndMarkRule, BitRule, BitRules, FrameRules}
 use Rattle.transfer.specs.Rules.{SendingRules, PlanRules}
-use Rattle.transfer.specs.Types.{Command, Limits, Lines, Byte, Phase, Start, FirstHold, Hold, ReadyToSend, ReadyForData}
+use Rattle.transfer.specs.Types.{Command, Limits, Tick, Byte, Phase, Start, FirstHold, Hold, ReadyToSend, ReadyForData}
 use Rattle.transfer.specs.Types.{Acknowledgement}
 use Rattle.transfer.specs.Types.{Acknowledged, SetUp, Valid, Open, Carried, End, Finished}
 use Rattle.answer.specs.Types.{Complete}
-use Rattle.transfer.proofs.{Rows.lines, Rows.goingOn, Stages.under-way-move, Stages.released-move, ByteValue.takenIn}
+use Rattle.transfer.proofs.{Rows.unmarked, Rows.goingOn, Stages.under-way-move, Stages.released-move, ByteValue.takenIn}
 use Rattle.transfer.proofs.{ByteValue.lastBit, ByteValue.eight-bits}
 use Rattle.transfer.proofs.HandoverTicks.{isPositive, less, handoverTicks, frameTicks, frame-ticks}
 
 -- What the bus shows of one tick of both tracks.
-abbrev pub shows : Limits → Pulls → Lines
+abbrev pub shows : Limits → Pulls → Tick
 shows L (pulls c s r) = goingOn L c (r || s)
-shows L (past c s r) = lines false c (r || s)
+shows L (past c s r) = unmarked false c (r || s)
 
 -- A row's test that holds, and one that fails.
 module _ (n since now : ℕ) (x y : Move) where
@@ -70,16 +70,16 @@ then-hands e h =
 
 module _ (L : Limits) where
   -- One tick.
-  one-tick : (now : ℕ) (p : Phase) (x : Move) (c d : Bool) (w : List Lines) → next L now p c d ≡ x
+  one-tick : (now : ℕ) (p : Phase) (x : Move) (c d : Bool) (w : List Tick) → next L now p c d ≡ x
       → run L now p (goingOn L c d ∷ w) ≡ onward x now (λ (q : Phase). run L (suc now) q w)
   unfolding run
   one-tick now p x c d w e = ap (λ (y : Move). onward y now (λ (q : Phase). run L (suc now) q w)) (under-way-move L now p c d ∙ e)
 
-  step : (now : ℕ) (p q : Phase) (c d : Bool) (w : List Lines) → next L now p c d ≡ Go q
+  step : (now : ℕ) (p q : Phase) (c d : Bool) (w : List Tick) → next L now p c d ≡ Go q
       → run L now p (goingOn L c d ∷ w) ≡ run L (suc now) q w
   step now p q c d w e = one-tick now p (Go q) c d w e
 
-  at-tick : (p : Phase) (w : List Lines) {a b : ℕ} → a ≡ b → run L a p w ≡ run L b p w
+  at-tick : (p : Phase) (w : List Tick) {a b : ℕ} → a ≡ b → run L a p w ≡ run L b p w
   at-tick p w e = ap (λ (t : ℕ). run L t p w) e
 
   -- k equal ticks in which a phase stays; k equal ticks of which the first leads into a phase.
@@ -170,8 +170,8 @@ module _ (L : Limits) where
 
   -- Commands: a tick with ATN released, the finish, and the ticks after it.
   module _ (command : L .entry ≡ Command) where
-    released-tick : (now : ℕ) (p : Phase) (x : Move) (c d : Bool) (w : List Lines) → isDecided p ≡ false → released L now (stage p) c d ≡ x
-        → run L now p (lines false c d ∷ w) ≡ onward x now (λ (q : Phase). run L (suc now) q w)
+    released-tick : (now : ℕ) (p : Phase) (x : Move) (c d : Bool) (w : List Tick) → isDecided p ≡ false → released L now (stage p) c d ≡ x
+        → run L now p (unmarked false c d ∷ w) ≡ onward x now (λ (q : Phase). run L (suc now) q w)
     unfolding run
     released-tick now p x c d w u e =
         ap (λ (y : Move). onward y now (λ (q : Phase). run L (suc now) q w)) (released-move L now p c d command u ∙ e)
@@ -332,7 +332,7 @@ module _ (L : Limits) where
     abbrev Begins : Bool → ℕ → Phase → Type 0
     Begins end-mark e p = (d : Bool) → next L e p true d ≡ Go (SetUp end-mark 0 d e 7)
 
-    seven-left : (end-mark : Bool) (e : ℕ) (d : Bool) (w : List Lines) {bits-left : ℕ} → bits-left ≡ 7
+    seven-left : (end-mark : Bool) (e : ℕ) (d : Bool) (w : List Tick) {bits-left : ℕ} → bits-left ≡ 7
         → run L (suc e) (SetUp end-mark 0 d e 7) w ≡ run L (suc e) (SetUp end-mark 0 d e bits-left) w
     seven-left end-mark e d w h = ap (λ (bits-left : ℕ). run L (suc e) (SetUp end-mark 0 d e bits-left) w) (sym h)
 

@@ -8,9 +8,9 @@ use native.Mathlib.Omega.{arith}
 use mathlib.Core.Path.{refl, ap}
 use borrow.Author.Tests.{ltb-false, leb-false}
 use Rattle.transfer.specs.Phases.{below, upTo, Move, Go, Hand, Stop, next, same, handover, afterBit}
-use Rattle.transfer.specs.Moves.{Stage, Running, Holding, Ended, Past, Fallen, stage, finishing, released, heed, unlessFallen, move}
-use Rattle.transfer.specs.{Moves.heldByte, Parties.underWay}
-use Rattle.transfer.specs.Types.{Entry, Plain, Command, Limits, Lines, Byte, Phase, Start, FirstHold, Hold, ReadyToSend}
+use Rattle.transfer.specs.Moves.{Stage, Running, Holding, Ended, Past, Fallen, stage, finishing, released, heed, unlessFallen}
+use Rattle.transfer.specs.{Moves.unlessMarked, Moves.move, Moves.heldByte, Parties.underWay, Spans.tick}
+use Rattle.transfer.specs.Types.{Entry, Plain, Command, Limits, Lines, Tick, Byte, Phase, Start, FirstHold, Hold, ReadyToSend}
 use Rattle.transfer.specs.Types.{ReadyForData, Acknowledgement}
 use Rattle.transfer.specs.Types.{Acknowledged, SetUp, Valid, Open, Carried, End, Finished, Decided}
 use Rattle.answer.specs.Types.{Fault, Attention}
@@ -64,9 +64,13 @@ settled entry l p = heed entry (l .atn) false (rests p (l .clk) (l .«data»)) (
 abbrev pub lines : (atn clk dat : Bool) → Lines
 lines a c d = record { atn = a; clk = c; «data» = d }
 
+-- A tick that shows them, with no ticks lost before it.
+abbrev pub unmarked : (atn clk dat : Bool) → Tick
+unmarked a c d = tick false (lines a c d)
+
 -- With ATN as it is while a transfer goes on.
-abbrev pub goingOn : Limits → (clk dat : Bool) → Lines
-goingOn L c d = lines (underWay (L .entry)) c d
+abbrev pub goingOn : Limits → (clk dat : Bool) → Tick
+goingOn L c d = unmarked (underWay (L .entry)) c d
 
 -- DATA that stays is the same.
 pub stays-same : (d : Bool) → same d d ≡ true
@@ -245,10 +249,16 @@ module _ (L : Limits) where
   climbs-released now (Decided fault) c d = stops
 
   -- A whole tick.
-  pub climbs : (now : ℕ) (p : Phase) (l : Lines) → Climbs now p (settled (L .entry) l) (move L now p l)
+  pub climbs : (now : ℕ) (p : Phase) (t : Tick) → Climbs now p (settled (L .entry) (t .lines)) (move L now p t)
   unfolding move
-  climbs now p l = by-stage (stage p) (heeded (L .entry) (l .atn) (l .clk) (l .«data»))
+  climbs now p t =
+      by-stage (stage p) (by-mark (t .marked) (heeded (L .entry) (t .lines .atn) (t .lines .clk) (t .lines .«data»)))
     where
+      by-mark : (marked : Bool) {stays : Phase → Bool} {does : Move} → Climbs now p stays does
+          → Climbs now p stays (unlessMarked marked does)
+      by-mark true here = stops
+      by-mark false here = here
+
       heeded : (entry : Entry) (a c d : Bool)
           → Climbs now p (settled entry (lines a c d)) (heed entry a (Stop Attention) (next L now p c d) (released L now (stage p) c d))
       heeded Plain true c d = stops

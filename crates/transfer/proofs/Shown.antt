@@ -5,7 +5,8 @@ use native.Mathlib.Omega.{arith}
 use mathlib.Core.Bool.{true≢false}
 use mathlib.Core.Path.{refl, ap, _∙_, subst, subst⁻¹}
 use borrow.Author.Tests.{lt-ltb, le-ltb}
-use Rattle.transfer.specs.{Types.Limits, Types.Byte, Rules.FrameRules, Rules.SendingRules, Rules.PlanRules, Demand3.Consistent}
+use Rattle.transfer.specs.{Types.Limits, Types.Lines, Types.Byte, Rules.FrameRules, Rules.SendingRules, Rules.PlanRules}
+use Rattle.transfer.specs.{Demand3.Consistent, Spans.linesIn}
 use Rattle.transfer.specs.Parties.{Pulls, pulls, past, nobody, held, clock, clockHeld, sets, offers, Bit, Frame, Free, Sending}
 use Rattle.transfer.specs.Parties.{more, last}
 use Rattle.transfer.specs.Parties.{lastCommand, Plan, finishTick, freeTick}
@@ -19,9 +20,13 @@ abbrev pub bare : Pulls → Pulls
 bare (pulls c s r) = pulls c s r
 bare (past c s r) = pulls c s r
 
+-- The lines that the bus shows.
+abbrev pub seen : Limits → List Pulls → List Lines
+seen L js = linesIn (map (shows L) js)
+
 -- The ticks are shown as they are, from a tick and a turn on. It is a record so that tick and turn are found from what is to be shown.
 record Same (L : Limits) (now : ℕ) (turn : Turn) (js : List Pulls) : Type 0 where
-  is : shownFrom now turn (map (shows L) js) ≡ map bare js
+  is : shownFrom now turn (seen L js) ≡ map bare js
 
 at-tick : {L : Limits} {a b : ℕ} {turn : Turn} {js : List Pulls} → a ≡ b → Same L a turn js → Same L b turn js
 at-tick {L = L} {turn = turn} {js = js} e h = subst (λ (now : ℕ). Same L now turn js) e h
@@ -30,7 +35,7 @@ at-tick {L = L} {turn = turn} {js = js} e h = subst (λ (now : ℕ). Same L now 
 abbrev showing : Limits → (now : ℕ) (b : Byte) (ledger : List Byte) (js : List Pulls) (c d ahead : Bool) → List Pulls
 showing L now b ledger js c d ahead =
     let turn = if ahead then sending b ledger else holding ledger in
-    pullsIn turn c d ∷ shownFrom (suc now) turn (map (shows L) js)
+    pullsIn turn c d ∷ shownFrom (suc now) turn (seen L js)
 
 -- One tick, and then the rest.
 module _ {L : Limits} {now : ℕ} {ledger : List Byte} {js : List Pulls} where
@@ -146,8 +151,8 @@ shows-free {L = L} c now (x ∷ after) off =
     }
   where
     one : (b c s r : Bool) → s ≡ false
-        → shownFrom now (spent b) (lines false c (r || s) ∷ map (shows L) (map freeTick after))
-        ≡ pulls c s r ∷ shownFrom (suc now) (spent c) (map (shows L) (map freeTick after))
+        → shownFrom now (spent b) (lines false c (r || s) ∷ seen L (map freeTick after))
+        ≡ pulls c s r ∷ shownFrom (suc now) (spent c) (seen L (map freeTick after))
     one b c true r e = absurd (true≢false e)
     one true true false true e = refl
     one true true false false e = refl
@@ -189,7 +194,7 @@ module _ (L : Limits) (times : Consistent L) where
   shows-sending now (lastCommand gap f after) rules tidy =
       waits-on false gap now (shows-frame f _ (rules .frame) (tidy .0) (shows-finish _ after (tidy .1)))
 
-  pub shows-plan : (p : Plan) → PlanRules L p → Tidy (p .sending) → shown (planBytes p) (map (shows L) (track p)) ≡ map bare (track p)
+  pub shows-plan : (p : Plan) → PlanRules L p → Tidy (p .sending) → shown (planBytes p) (seen L (track p)) ≡ map bare (track p)
   shows-plan p rules tidy = whole .is
     where
       whole : Same L 0 (holding (planBytes p)) (track p)

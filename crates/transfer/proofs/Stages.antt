@@ -2,14 +2,14 @@
 use Rattle.answer.specs.Basics.{ℕ, Bool, true, false, _≡_}
 use mathlib.Core.Bool.{false≢true}
 use mathlib.Core.Path.{refl, sym, ap, _∙_, subst, subst⁻¹}
-use Rattle.answer.specs.Types.{Fault, Attention}
+use Rattle.answer.specs.Types.{Fault, Attention, Overrun}
 use Rattle.transfer.specs.Phases.{Move, Stop, next}
 use Rattle.transfer.specs.Moves.{Stage, Running, Holding, Ended, Past, Fallen, stage, hasFallen, isDecided, released, heed}
-use Rattle.transfer.specs.Moves.{unlessFallen}
-use Rattle.transfer.specs.{Moves.move, Parties.underWay}
-use Rattle.transfer.specs.Types.{Entry, Plain, Command, Limits, Lines, Byte, Phase, Start, FirstHold, Hold, ReadyToSend, ReadyForData}
+use Rattle.transfer.specs.{Moves.unlessFallen, Moves.unlessMarked, Moves.move, Parties.underWay, Spans.tick}
+use Rattle.transfer.specs.Types.{Entry, Plain, Command, Limits, Lines, Tick, Byte, Phase, Start, FirstHold, Hold, ReadyToSend}
+use Rattle.transfer.specs.Types.{ReadyForData}
 use Rattle.transfer.specs.Types.{Acknowledgement, Acknowledged, SetUp, Valid, Open, Carried, End, Finished, Decided}
-use Rattle.transfer.proofs.Rows.{settled, lines, goingOn}
+use Rattle.transfer.proofs.Rows.{settled, unmarked, goingOn}
 
 -- The one list of all phases that says which is E, which follows the finish of commands and which is a verdict.
 pub data Told (p : Phase) : Type 0 where
@@ -63,19 +63,28 @@ undecided entry p l e = by-stage (told p)
     by-stage (is-past finish r) = ap isDecided r
     by-stage (is-decided fault r) = absurd (decided-not entry (l .atn) (subst (λ (q : Phase). settled entry l q ≡ true) r e))
 
--- A tick in a phase that is not decided: what ATN means, then the rows.
+not-fallen : (g : Stage) (does : Move) → hasFallen g ≡ false → unlessFallen g does ≡ does
+not-fallen Running does u = refl
+not-fallen (Holding byte) does u = refl
+not-fallen (Ended finish) does u = refl
+not-fallen (Past finish) does u = refl
+not-fallen (Fallen fault) does u = absurd (false≢true (sym u))
+
+-- A marked tick in a phase that is not decided.
+pub marked-move : (L : Limits) (now : ℕ) (p : Phase) (t : Tick) → isDecided p ≡ false → t .marked ≡ true → move L now p t ≡ Stop Overrun
+unfolding move
+marked-move L now p t u marked = not-fallen (stage p) _ u ∙ stops (t .marked) _ marked
+  where
+    stops : (m : Bool) (does : Move) → m ≡ true → unlessMarked m does ≡ Stop Overrun
+    stops true does e = refl
+    stops false does e = absurd (false≢true e)
+
+-- An unmarked tick in a phase that is not decided: what ATN means, then the rows.
 pub undecided-move : (L : Limits) (now : ℕ) (p : Phase) (l : Lines) → isDecided p ≡ false
-    → move L now p l
+    → move L now p (tick false l)
     ≡ heed (L .entry) (l .atn) (Stop Attention) (next L now p (l .clk) (l .«data»)) (released L now (stage p) (l .clk) (l .«data»))
 unfolding move
-undecided-move L now p l = by-stage (stage p) _
-  where
-    by-stage : (g : Stage) (does : Move) → hasFallen g ≡ false → unlessFallen g does ≡ does
-    by-stage Running does u = refl
-    by-stage (Holding byte) does u = refl
-    by-stage (Ended finish) does u = refl
-    by-stage (Past finish) does u = refl
-    by-stage (Fallen fault) does u = absurd (false≢true (sym u))
+undecided-move L now p l = not-fallen (stage p) _
 
 -- A tick with ATN as it is while the transfer goes on does what the rows say.
 pub under-way-move : (L : Limits) (now : ℕ) (p : Phase) (c d : Bool) → move L now p (goingOn L c d) ≡ next L now p c d
@@ -87,7 +96,7 @@ under-way-move L now p c d = by-stage (told p)
     heeded Command x y z = refl
 
     rows : isDecided p ≡ false → move L now p (goingOn L c d) ≡ next L now p c d
-    rows u = undecided-move L now p (goingOn L c d) u ∙ heeded (L .entry) _ _ _
+    rows u = undecided-move L now p (goingOn L c d .lines) u ∙ heeded (L .entry) _ _ _
 
     by-stage : Told p → move L now p (goingOn L c d) ≡ next L now p c d
     by-stage (is-running r) = rows (ap hasFallen r)
@@ -99,7 +108,7 @@ under-way-move L now p c d = by-stage (told p)
 
 -- A tick of commands with ATN released.
 pub released-move : (L : Limits) (now : ℕ) (p : Phase) (c d : Bool) → L .entry ≡ Command → isDecided p ≡ false
-    → move L now p (lines false c d) ≡ released L now (stage p) c d
+    → move L now p (unmarked false c d) ≡ released L now (stage p) c d
 released-move L now p c d command u =
-    undecided-move L now p (lines false c d) u
+    undecided-move L now p (unmarked false c d .lines) u
     ∙ ap (λ (entry : Entry). heed entry false (Stop Attention) (next L now p c d) (released L now (stage p) c d)) command

@@ -1,11 +1,12 @@
 -- Facts that keep the statements from being empty or wide.
 use Rattle.answer.specs.Basics.{ℕ, suc, _≤_, _<_, Bool, true, false, List, [], _∷_, _++_, map, length, replicate, _≡_}
-use Rattle.transfer.specs.Types.{Plain, Command, Limits, Lines, Byte}
-use Rattle.transfer.specs.{Limits.standardLimits, Limits.commandLimits, Outcome.outcome, Demand3.Explains, Demand3.Explained}
-use Rattle.transfer.specs.Spans.{_∶_, ticks, s1, listen}
+use Rattle.transfer.specs.Types.{Plain, Command, Limits, Lines, Tick, Byte}
+use Rattle.transfer.specs.{Limits.standardLimits, Limits.commandLimits, Outcome.outcome, Moves.brokenAt, Spans.Span}
+use Rattle.transfer.specs.Demand3.{Explains, Explained}
+use Rattle.transfer.specs.Spans.{linesIn, _∶_, lost, ticks, till41, s1, listen}
 use Rattle.transfer.specs.Parties.{Bit, Frame, Free, Sending, last, lastCommand, Plan, planBytes}
 use Rattle.transfer.specs.Pair.{SenderPulls, Pair, senderTrack, receiverTrack, attentionTrack, gives}
-use Rattle.answer.specs.Types.{Complete}
+use Rattle.answer.specs.Types.{Overrun, Complete}
 
 -- A pair is for one byte or more, each of them below 256.
 abbrev pub AllBytes : List ℕ → Type 0
@@ -23,7 +24,15 @@ PairSendsBytes =
 
 -- S1 has a pair.
 abbrev pub S1Explained : Type 0
-S1Explained = Explained standardLimits (ticks s1) (0x41 ∷ [])
+S1Explained = Explained standardLimits (linesIn (ticks s1)) (0x41 ∷ [])
+
+-- With ticks lost after its end, S1 shows the same lines, so that it has a pair; and it is not complete.
+abbrev pub s1Lost : List Span
+s1Lost = till41 ++ (30 ∶ 2 ∷ 200 ∶ 6 ∷ 50 ∶ 4 ∷ lost (100 ∶ 0) ∷ [])
+
+pub record LostThoughExplained : Type 0 where
+  pub has-pair : Explained standardLimits (linesIn (ticks s1Lost)) (0x41 ∷ [])
+  pub is-broken : outcome standardLimits (ticks s1Lost) .decision ≡ brokenAt Overrun 1910
 
 -- The byte 0x80, each set-up one tick and each valid time 20, as the first and last one of a plan.
 abbrev pub oneTick : Bool → Bit
@@ -56,7 +65,7 @@ pub record TwoPairs : Type 0 where
 
 -- A command recording has a pair.
 abbrev pub ListenExplained : Type 0
-ListenExplained = Explained commandLimits (ticks (listen 200 ++ (1 ∶ 6 ∷ 9 ∶ 4 ∷ []))) (0x28 ∷ 0x6F ∷ [])
+ListenExplained = Explained commandLimits (linesIn (ticks (listen 200 ++ (1 ∶ 6 ∷ 9 ∶ 4 ∷ [])))) (0x28 ∷ 0x6F ∷ [])
 
 -- "What CLK and DATA show after [the finish] binds nobody": DATA in the tick after it may be the receiver's or the sender's.
 abbrev pub command80 : Free → Plan
@@ -89,5 +98,5 @@ AttentionLaw = (L : Limits) (w : List Lines) (string : List ℕ) → Explained L
 -- No tick list passes both entries, whatever the times.
 abbrev pub NeverBoth : Type 0
 NeverBoth =
-    (L M : Limits) (w : List Lines) → L .entry ≡ Plain → M .entry ≡ Command → outcome L w .decision .verdict ≡ Complete
+    (L M : Limits) (w : List Tick) → L .entry ≡ Plain → M .entry ≡ Command → outcome L w .decision .verdict ≡ Complete
     → outcome M w .decision .verdict ≡ Complete → ⊥

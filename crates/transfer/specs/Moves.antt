@@ -1,10 +1,10 @@
 -- What a tick does, and what the recording comes to where it runs out.
 use Rattle.answer.specs.Basics.{ℕ, _+_, Bool, true, false, if_then_else_}
 use Rattle.transfer.specs.Phases.{below, Move, Go, Hand, Stop, next}
-use Rattle.transfer.specs.Types.{Entry, Plain, Command, Limits, Lines, Byte, Phase, Start, FirstHold, Hold, ReadyToSend}
+use Rattle.transfer.specs.Types.{Entry, Plain, Command, Limits, Tick, Byte, Phase, Start, FirstHold, Hold, ReadyToSend}
 use Rattle.transfer.specs.Types.{ReadyForData, Acknowledgement}
 use Rattle.transfer.specs.Types.{Acknowledged, SetUp, Valid, Open, Carried, End, Finished, Decided, Decision}
-use Rattle.answer.specs.Types.{Fault, Attention, AttentionReleased, Complete, Cut, Broken}
+use Rattle.answer.specs.Types.{Fault, Attention, AttentionReleased, Overrun, Complete, Cut, Broken}
 
 -- How far a transfer has come, for whatever asks only that: it is running; it is running and holds a byte that was taken, or may have
 -- been, and is not yet handed over; the stream is ended; commands are finished; a verdict has fallen.
@@ -76,12 +76,19 @@ unlessFallen (Ended finish) does = does
 unlessFallen (Past finish) does = does
 unlessFallen (Fallen fault) does = Stop fault
 
--- What a tick does in a phase, whole: a verdict stands; then what ATN means; then the phase's rows.
-unfoldable pub move : Limits → (now : ℕ) → Phase → Lines → Move
-move L now phase lines =
+-- #103: "The first tick of a marked step gives verdict 40, before ATN is looked at, also in E, at tick 0 and after #101's finish."
+abbrev pub unlessMarked : (marked : Bool) → Move → Move
+unlessMarked true does = Stop Overrun
+unlessMarked false does = does
+
+-- What a tick does in a phase, whole: a verdict stands; then whether ticks were lost; then what ATN means; then the phase's rows.
+unfoldable pub move : Limits → (now : ℕ) → Phase → Tick → Move
+move L now phase tick =
+    let lines = tick .lines in
     unlessFallen (stage phase)
+    (unlessMarked (tick .marked)
     (heed (L .entry) (lines .atn) (Stop Attention) (next L now phase (lines .clk) (lines .«data»))
-    (released L now (stage phase) (lines .clk) (lines .«data»)))
+    (released L now (stage phase) (lines .clk) (lines .«data»))))
 
 abbrev pub noByte : Byte
 noByte = record { value = 0; «let_go» = 0; take = 0 }

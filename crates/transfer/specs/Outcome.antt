@@ -3,7 +3,7 @@
 use Rattle.answer.specs.Basics.{ℕ, suc, List, [], _∷_}
 use Rattle.transfer.specs.Moves.{move, decisionOf, brokenAt}
 use Rattle.transfer.specs.Phases.{Move, Go, Hand, Stop}
-use Rattle.transfer.specs.Types.{Limits, Lines, Byte, Phase, Start, Decision}
+use Rattle.transfer.specs.Types.{Limits, Tick, Byte, Phase, Start, Decision}
 use Rattle.answer.specs.Types.{Fault}
 
 -- A verdict with its deciding tick, and the ledger: each byte handed over with its two ticks.
@@ -30,9 +30,9 @@ onward (Hand b p) now rest = give b (rest p)
 onward (Stop f) now rest = decided f now
 
 -- The ticks that are read in a phase, the first of them `now`.
-unfoldable pub run : Limits → (now : ℕ) → Phase → List Lines → Outcome
+unfoldable pub run : Limits → (now : ℕ) → Phase → List Tick → Outcome
 run L now p [] = ended p now
-run L now p (l ∷ w) = onward (move L now p l) now (λ (q : Phase). run L (suc now) q w)
+run L now p (t ∷ w) = onward (move L now p t) now (λ (q : Phase). run L (suc now) q w)
 
-abbrev pub outcome : Limits → List Lines → Outcome
+abbrev pub outcome : Limits → List Tick → Outcome
 outcome L w = run L 0 Start w

@@ -1,24 +1,40 @@
 -- Ticks in spans of equal lines, as the steps of a recording show them; document 01's S1 and a command recording written so.
-use Rattle.answer.specs.Basics.{ℕ, _+_, true, List, [], _∷_, _++_, replicate}
-use Rattle.transfer.specs.{Types.Lines, Lines.linesOf}
+use Rattle.answer.specs.Basics.{ℕ, _+_, Bool, true, false, List, [], _∷_, _++_, map, firstThen, _≡_}
+use Rattle.transfer.specs.{Types.Lines, Types.Tick, Lines.linesOf}
 
--- So many ticks that show the same lines.
+abbrev pub tick : (marked : Bool) → Lines → Tick
+tick marked lines = record { marked = marked; lines = lines }
+
+-- The lines of a tick list, marked or not; and that no tick of it is marked.
+abbrev pub linesIn : List Tick → List Lines
+linesIn w = map (λ (t : Tick). t .lines) w
+
+abbrev pub Unmarked : List Tick → Type 0
+Unmarked [] = Unit {0}
+Unmarked (t ∷ w) = (t .marked ≡ false) × Unmarked w
+
+-- So many ticks that show the same lines; `marked`: ticks were lost before the first of them.
 pub record Span : Type 0 where
+  pub marked : Bool
   pub duration : ℕ
   pub lines : Lines
 
-abbrev pub spanTicks : Span → List Lines
-spanTicks s = replicate (s .duration) (s .lines)
+abbrev pub spanTicks : Span → List Tick
+spanTicks s = firstThen (s .duration) (tick (s .marked) (s .lines)) (tick false (s .lines))
 
 -- The tick list that spans mean.
-abbrev pub ticks : List Span → List Lines
+abbrev pub ticks : List Span → List Tick
 ticks [] = []
 ticks (s ∷ spans) = spanTicks s ++ ticks spans
 
 -- `d ∶ b` is a span of duration d that shows the line byte b: 1 is ATN, 2 CLK, 4 DATA.
 infix 90 _∶_
 abbrev pub _∶_ : ℕ → ℕ → Span
-d ∶ b = record { duration = d; lines = linesOf b }
+d ∶ b = record { marked = false; duration = d; lines = linesOf b }
+
+-- The same span, marked.
+abbrev pub lost : Span → Span
+lost s = record { marked = true; duration = s .duration; lines = s .lines }
 
 -- Up to the bits of a first and last byte: the ticks of the gap, those of the acknowledgement, and 40 more.
 abbrev pub opening : (gap acknowledgement : ℕ) → List Span
@@ -41,7 +57,8 @@ s1 = till41 ++ (30 ∶ 2 ∷ 200 ∶ 6 ∷ 50 ∶ 4 ∷ 100 ∶ 0 ∷ [])
 abbrev pub attended : List Span → List Span
 attended [] = []
 attended (s ∷ spans) =
-    record { duration = s .duration; lines = record { atn = true; clk = s .lines .clk; «data» = s .lines .«data» } } ∷ attended spans
+    let pulled : Lines = record { atn = true; clk = s .lines .clk; «data» = s .lines .«data» } in
+    record { marked = s .marked; duration = s .duration; lines = pulled } ∷ attended spans
 
 -- A byte without end mark, up to its take.
 abbrev pub plainByte : List ℕ → List Span

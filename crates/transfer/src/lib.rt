@@ -3,6 +3,7 @@ mod decision;
 mod limits;
 mod lines;
 mod phase;
+mod tick;
 
 pub use crate::decision::Decision;
 pub use crate::limits::Entry;
@@ -10,3 +11,4 @@ pub use crate::limits::Limits;
 pub use crate::lines::Lines;
 pub use crate::phase::Byte;
 pub use crate::phase::Phase;
+pub use crate::tick::Tick;

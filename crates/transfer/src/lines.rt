@@ -1,4 +1,4 @@
-// What one tick shows, decoded from a line byte in this place alone.
+// The lines at one tick, decoded from a line byte in this place alone.
 ghost use Rattle.answer.specs.Basics.{_≡_};
 ghost use Rattle.transfer.specs.Lines.{linesOf};
 

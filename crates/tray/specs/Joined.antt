@@ -1,7 +1,8 @@
 -- The tray joined to the judge: what a post of what the judge gave and left comes to.
 use Rattle.answer.specs.Basics.{ℕ, List, [], _≡_, _↔_}
 use Rattle.transfer.specs.{Types.Limits, Demand3.Consistent, Demand3.Explained}
-use Rattle.judge.specs.{Judged.Judged, Judged.judged, Judged.tickList, Demand3.CompleteWith}
+use Rattle.judge.specs.{Judged.Judged, Judged.judged, Judged.lineList, Demand3.CompleteWith}
+use Rattle.recording.specs.Ticks.{NoStepMarked}
 use Rattle.tray.specs.Types.{Post, Passed, Seat}
 use Rattle.tray.specs.{Passing.passing, Tray.Called, Tray.seatAt, Tray.called}
 
@@ -21,8 +22,8 @@ module _ (L : Limits) (file bytes ledger expected : List ℕ) (tray : List Seat)
   pub record Posted : Type 0 where
     -- An accepted post passes its seat exactly if the recording is complete with the expected string,
     pub exactly : left .answer ≡ 0 → Passes ↔ CompleteWith given expected
-    -- and so only if a rule-keeping pair sends it.
-    pub explained : Passes → Explained L (tickList file) expected
+    -- and so only if a rule-keeping pair sends it and no step is marked.
+    pub explained : Passes → Explained L (lineList file) expected × NoStepMarked file
     -- With no bytes expected none passes: a transfer of no byte is never complete.
     pub some-byte : Passes → expected ≡ [] → ⊥
 

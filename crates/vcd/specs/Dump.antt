@@ -1,11 +1,11 @@
--- The text of a Value Change Dump (IEEE 1364) of a recording's steps. One tick is 1 µs.
+-- The text of a Value Change Dump (IEEE 1364) of a recording's steps, by the ticks that they mean. One tick is 1 µs.
 use Prim.Native.Char.{code}
 use Rattle.answer.specs.Basics.{ℕ, _+_, List, [], _∷_, _++_, eqb, if_then_else_}
-use Rattle.recording.specs.{Types.Step, Ticks.totalTicks}
+use Rattle.recording.specs.{Types.Step, Ticks.Tick, Ticks.ticks, Ticks.totalTicks}
 use Rattle.answer.specs.Text.{newline}
-use Rattle.vcd.specs.{Text.inLines, Text.decimal, Wires.valueText, Wires.changeText, Wires.eachWire}
+use Rattle.vcd.specs.{Text.inLines, Text.decimal, Wires.shownIn, Wires.valueText, Wires.changeText, Wires.eachWire}
 
--- The declarations: the timescale, and a wire of one bit for each line with its identifier.
+-- The declarations: the timescale, and each wire, of one bit, with its identifier.
 unfoldable pub heading : List ℕ
 heading =
     inLines
@@ -15,6 +15,7 @@ heading =
     ∷ "$var wire 1 C CLK $end"
     ∷ "$var wire 1 D DATA $end"
     ∷ "$var wire 1 S SRQ $end"
+    ∷ "$var wire 1 L LOST $end"
     ∷ "$upscope $end"
     ∷ "$enddefinitions $end"
     ∷ [])
@@ -23,20 +24,20 @@ heading =
 unfoldable pub timeText : (tick : ℕ) → List ℕ
 timeText tick = code "#" ∷ (decimal tick ++ (newline ∷ []))
 
--- A step that begins at a tick, after one that showed `before`: its time, and each wire that differs; nothing where none does.
-unfoldable pub stepText : (before tick lines : ℕ) → List ℕ
-stepText before tick lines = if eqb before lines then [] else timeText tick ++ eachWire (changeText before lines)
+-- A tick after one that showed `before`: its time, and each wire that differs; nothing where none does.
+unfoldable pub tickText : (before tick shown : ℕ) → List ℕ
+tickText before tick shown = if eqb before shown then [] else timeText tick ++ eachWire (changeText before shown)
 
--- The steps after the first. Each begins where the one before it ends.
-unfoldable pub laterText : (before tick : ℕ) → List Step → List ℕ
+-- Ticks one after another, of which the first is number `tick` and comes after one that showed `before`.
+unfoldable pub laterText : (before tick : ℕ) → List Tick → List ℕ
 laterText before tick [] = []
-laterText before tick (s ∷ steps) = stepText before tick (s .lines) ++ laterText (s .lines) (tick + s .duration) steps
+laterText before tick (t ∷ ts) = tickText before tick (shownIn t) ++ laterText (shownIn t) (tick + 1) ts
 
--- The first step shows all four wires.
-unfoldable pub stepsText : List Step → List ℕ
-stepsText [] = []
-stepsText (s ∷ steps) = timeText 0 ++ (eachWire (valueText (s .lines)) ++ laterText (s .lines) (s .duration) steps)
+-- All ticks. The first shows all five wires.
+unfoldable pub ticksText : List Tick → List ℕ
+ticksText [] = []
+ticksText (t ∷ ts) = timeText 0 ++ (eachWire (valueText (shownIn t)) ++ laterText (shownIn t) 1 ts)
 
 -- The dump: the declarations, the changes, and the time at which the recording ends.
 unfoldable pub dump : List Step → List ℕ
-dump steps = heading ++ (stepsText steps ++ timeText (totalTicks steps))
+dump steps = heading ++ (ticksText (ticks steps) ++ timeText (totalTicks steps))

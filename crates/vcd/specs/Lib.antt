@@ -4,4 +4,5 @@ pub mod Wires
 pub mod Dump
 pub mod Dumped
 pub mod Samples
+pub mod Steps
 pub mod Put

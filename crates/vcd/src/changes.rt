@@ -1,9 +1,11 @@
 // The changes, step by step.
-ghost use Rattle.answer.specs.Basics.{_-_, _≤_, length};
-ghost use Rattle.recording.specs.{Layout.mostSteps, Layout.fileLength, Ticks.stepsFrom};
-ghost use Rattle.vcd.specs.Put.{held, Puts};
-ghost use Rattle.vcd.specs.Dump.{timeText, stepText, laterText, stepsText};
+ghost use Rattle.answer.specs.Basics.{_*_, _≤_};
+ghost use Rattle.recording.specs.{GoodForm.GoodForm, GoodForm.GoodStep, Layout.mostSteps, Layout.longestDuration};
+ghost use Rattle.recording.specs.Ticks.{stepsFrom, ticks};
+ghost use Rattle.vcd.specs.{Put.held, Put.Puts, Steps.stepText};
+ghost use Rattle.vcd.specs.Dump.{timeText, tickText, laterText, ticksText};
 use crate::numbers;
+use crate::shown;
 use crate::window;
 use crate::window::Window;
 use crate::wires;
@@ -18,55 +20,71 @@ pub(crate) fn put_time(destination: &mut [u8], window: Window, tick: u32) -> Win
     window::put_byte(destination, window, b'\n')
 }
 
-// A step that begins at a tick, after one that showed `before`.
-fn put_step(destination: &mut [u8], window: Window, before: u8, tick: u32, lines: u8) -> Window
-    ensures { λ r. ⌜ Puts (stepText before tick lines) (held window (now (destination .entry))) (held r (now (destination .exit))) ⌝ }
+// A tick after one that showed `before`.
+fn put_tick(destination: &mut [u8], window: Window, before: u8, tick: u32, shown: u8) -> Window
+    ensures { λ r. ⌜ Puts (tickText before tick shown) (held window (now (destination .entry))) (held r (now (destination .exit))) ⌝ }
 {
-    if before == lines {
+    if before == shown {
         return window;
     }
     let window = put_time(destination, window, tick);
-    wires::put_changes(destination, window, before, lines)
+    wires::put_changes(destination, window, before, shown)
 }
 
-// The steps after the first. Each begins where the one before it ends.
-fn put_later_steps(
+// A step that begins at a tick, after one that showed `before`: its first tick, and its second, in which the mark of a longer step is gone.
+fn put_step(destination: &mut [u8], window: Window, before: u8, start: u32, step: Step) -> Window
+    requires { ⌜ GoodStep step × (start ≤ longestDuration * mostSteps) ⌝ }
+    ensures { λ r. ⌜ Puts (stepText before start step) (held window (now (destination .entry))) (held r (now (destination .exit))) ⌝ }
+{
+    let first = shown::shown_first(step);
+    let window = put_tick(destination, window, before, start, first);
+    put_tick(
+        destination,
+        window,
+        first,
+        start + 1,
+        shown::shown_last(step),
+    )
+}
+
+// Each step, after a tick that showed `first`. It begins where the one before it ends.
+fn put_each_step(
     file: &[u8],
     steps: usize,
-    first: Step,
     destination: &mut [u8],
     window: Window,
+    first: u8,
 ) -> Window
-    requires { ⌜ (1 ≤ steps) × (steps ≤ mostSteps) × (fileLength steps ≤ length (now file)) ⌝ }
-    ensures { λ r. ⌜ Puts (laterText (first .lines) (first .duration) (stepsFrom (now (file .entry)) 1 (steps - 1)))
+    requires { ⌜ GoodForm (now file) steps ⌝ }
+    ensures { λ r. ⌜ Puts (laterText first 0 (ticks (stepsFrom (now (file .entry)) 0 steps)))
         (held window (now (destination .entry))) (held r (now (destination .exit))) ⌝ }
 {
     let mut window = window;
-    let mut before = first.lines;
-    let mut end = first.duration as u32;
-    let mut index: usize = 1;
+    let mut before = first;
+    let mut end: u32 = 0;
+    let mut index: usize = 0;
     while index < steps {
         let step = Step::read(file, index);
         let start = end;
         end += step.duration as u32;
-        window = put_step(destination, window, before, start, step.lines);
-        before = step.lines;
+        window = put_step(destination, window, before, start, step);
+        before = shown::shown_last(step);
         index += 1;
     }
     window
 }
 
-// All steps. The first shows every wire.
+// All steps. The first tick shows every wire; it is then compared with itself, so that nothing more is put down for it.
 pub(crate) fn put_steps(file: &[u8], steps: usize, destination: &mut [u8], window: Window) -> Window
-    requires { ⌜ (steps ≤ mostSteps) × (fileLength steps ≤ length (now file)) ⌝ }
-    ensures { λ r. ⌜ Puts (stepsText (stepsFrom (now (file .entry)) 0 steps))
+    requires { ⌜ GoodForm (now file) steps ⌝ }
+    ensures { λ r. ⌜ Puts (ticksText (ticks (stepsFrom (now (file .entry)) 0 steps)))
         (held window (now (destination .entry))) (held r (now (destination .exit))) ⌝ }
 {
     if steps == 0 {
         return window;
     }
-    let first = Step::read(file, 0);
+    let first = shown::shown_first(Step::read(file, 0));
     let window = put_time(destination, window, 0);
-    let window = wires::put_values(destination, window, first.lines);
-    put_later_steps(file, steps, first, destination, window)
+    let window = wires::put_values(destination, window, first);
+    put_each_step(file, steps, destination, window, first)
 }

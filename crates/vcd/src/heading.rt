@@ -1,4 +1,4 @@
-// The declarations that a dump begins with: the timescale, and a wire of one bit for each line, with its identifier.
+// The declarations that a dump begins with: the timescale, and each wire, of one bit, with its identifier.
 ghost use Rattle.vcd.specs.{Dump.heading, Put.held, Put.Puts};
 use crate::window;
 use crate::window::Window;
@@ -15,6 +15,7 @@ pub(crate) fn put_heading(destination: &mut [u8], window: Window) -> Window
         $var wire 1 C CLK $end\n\
         $var wire 1 D DATA $end\n\
         $var wire 1 S SRQ $end\n\
+        $var wire 1 L LOST $end\n\
         $upscope $end\n\
         $enddefinitions $end\n",
     )

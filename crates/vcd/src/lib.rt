@@ -3,6 +3,7 @@ mod changes;
 mod entry;
 mod heading;
 mod numbers;
+mod shown;
 mod window;
 mod wires;
 

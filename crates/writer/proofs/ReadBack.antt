@@ -6,22 +6,22 @@ use Rattle.answer.specs.{Answers._over_, Numbers.verdictNumber}
 use Rattle.recording.specs.{Types.Step, FileOf.FileOf, GoodForm.Bytes, Ticks.stepsOf}
 use Rattle.recording.proofs.{FileOfLaws.file-of, FileOfLaws.file-length, GoodFormLaws.good-form}
 use Rattle.transfer.specs.{Limits.standardLimits, Outcome.Outcome, Outcome.outcome}
-use Rattle.judge.specs.Judged.{tickLines, verdictLeaves}
+use Rattle.judge.specs.Judged.{ticksShown, verdictLeaves}
 use Rattle.judge.proofs.{JudgedLaws.is-verdict, LedgerLists.length-values}
 use Rattle.writer.specs.{Card.standardCard, ReadBack.ReadAs, ReadBack.ReadBackLaw, Written.mostBytes, Written.recordingOf}
 use Rattle.writer.specs.{Written.CountedLaw, WrittenSteps.writtenSteps}
-use Rattle.writer.proofs.{SentComplete.writtenLines, SentComplete.sent-complete, SentComplete.empty-outcome}
+use Rattle.writer.proofs.{SentComplete.writtenTicks, SentComplete.sent-complete, SentComplete.empty-outcome}
 use Rattle.writer.proofs.{StringLaws.written-count, TickLaws.written-ticks, WrittenRecordable.written-recordable}
 
 -- A verdict over the ticks that are put down for a string, with exactly its bytes.
 read-string : (steps : List Step) (string : List ℕ) → Bytes string → (bytes ledger : List ℕ)
-    → ReadAs string bytes (verdictLeaves steps (outcome standardLimits (writtenLines standardCard string)) bytes ledger)
+    → ReadAs string bytes (verdictLeaves steps (outcome standardLimits (writtenTicks standardCard string)) bytes ledger)
 read-string steps [] is bytes ledger =
     subst⁻¹ (λ (o : Outcome). ReadAs [] bytes (verdictLeaves steps o bytes ledger)) empty-outcome
     (record { number = refl; count = refl; buffer = refl })
 read-string steps (first ∷ others) is bytes ledger =
     let c = sent-complete first others is in
-    let o = outcome standardLimits (writtenLines standardCard (first ∷ others)) in
+    let o = outcome standardLimits (writtenTicks standardCard (first ∷ others)) in
     record {
       number = ap verdictNumber (c .verdict);
       count = sym (length-values (o .bytes)) ∙ ap length (c .bytes);
@@ -46,6 +46,6 @@ read-back string is few bytes ledger hb hg =
     let good = good-form file _ .1 (is-recording string few .good) in
     subst⁻¹ (ReadAs string bytes)
     (is-verdict standardLimits file bytes ledger _ good hb hg
-    ∙ ap (λ (steps : List Step). verdictLeaves (stepsOf file) (outcome standardLimits (tickLines steps)) bytes ledger)
+    ∙ ap (λ (steps : List Step). verdictLeaves (stepsOf file) (outcome standardLimits (ticksShown steps)) bytes ledger)
     (is-recording string few .steps-back))
     (read-string (stepsOf file) string is bytes ledger)

@@ -1,42 +1,50 @@
--- The tracks of a card's plan give the ticks that the steps put down mean. Assumes nothing.
+-- The bus shows of a card's plan what the steps put down show. Assumes nothing.
 use Rattle.answer.specs.Basics.{ℕ, zero, suc, _+_, _-_, _*_, _/_, _%_, _≤_, _<_, Bool, true, false, List, [], _∷_, _++_, map, replicate}
 use Rattle.answer.specs.Basics.{_≡_, eqb, if_then_else_}
 use native.Mathlib.Omega.{arith}
-use mathlib.Core.List.{append-nil, append-assoc}
+use mathlib.Core.List.{map-append, append-nil, append-assoc}
 use mathlib.Core.Path.{refl, sym, ap, ap₂, _∙_}
 use Rattle.recording.specs.{Types.Step, Ticks.ticks}
-use Rattle.transfer.specs.{Types.Plain, Limits.standardLimits, Lines.linesOf, Pair.senderPulls, Pair.receiverPulls, Pair.gives}
-use Rattle.transfer.specs.Parties.{Pulls, pulls, past, attention, nobody, held, clock, clockHeld, sets, offers, bitsTrack, frameTrack}
+use Rattle.transfer.specs.{Types.Tick, Limits.standardLimits, Lines.linesOf, Spans.tick}
+use Rattle.transfer.specs.Parties.{Pulls, nobody, held, clock, clockHeld, sets, offers, bitsTrack, frameTrack}
 use Rattle.transfer.specs.Parties.{track}
-use Rattle.transfer.proofs.{Rows.lines, Forward.shows as onBus, HandoverTicks.frame-ticks, Plans.handover-is}
+use Rattle.transfer.proofs.{Rows.unmarked, Forward.shows as onBus, HandoverTicks.frame-ticks, Plans.handover-is}
+use Rattle.judge.specs.Judged.{ticksShown}
+use Rattle.judge.proofs.TickLists.{map-replicate, step-shows, all-same}
 use Rattle.writer.specs.WrittenSteps.{shows, bitSteps, byteSteps, sentSteps}
 use Rattle.writer.specs.declared.card.Card.{Card}
 use Rattle.writer.proofs.SentPlan.{odd, bitsOf, frameOf, planOf}
 
--- Both tracks, with ATN released, give the ticks of the steps.
+-- What the bus shows of both tracks, with ATN released, is what the ticks of the steps show.
 pub record Gives (js : List Pulls) (steps : List Step) : Type 0 where
-  pub same : gives (map (attention Plain) js) (map senderPulls js) (map receiverPulls js) ≡ map linesOf (ticks steps)
+  pub same : map (onBus standardLimits) js ≡ ticksShown steps
 
 gives-nothing : Gives [] []
 unfolding ticks
 gives-nothing = record { same = refl }
 
 -- Equal ticks of both tracks in front, and the step that shows them; the same where nothing follows.
-gives-step : (p : Pulls) {byte n : ℕ} {js : List Pulls} {steps : List Step} → linesOf byte ≡ onBus standardLimits p → Gives js steps
-    → Gives (replicate n p ++ js) (record { duration = n; lines = byte; last = 0 } ∷ steps)
+gives-step : (p : Pulls) {byte n : ℕ} {js : List Pulls} {steps : List Step} → tick false (linesOf byte) ≡ onBus standardLimits p
+    → Gives js steps → Gives (replicate n p ++ js) (record { duration = n; lines = byte; last = 0 } ∷ steps)
 unfolding ticks
-gives-step p {n = zero} e rest = record { same = rest .same }
-gives-step (pulls clk sender receiver) {n = suc n} e rest =
-    record { same = ap₂ (λ l w. l ∷ w) (sym e) (gives-step (pulls clk sender receiver) {n = n} e rest .same) }
-gives-step (past clk sender receiver) {n = suc n} e rest =
-    record { same = ap₂ (λ l w. l ∷ w) (sym e) (gives-step (past clk sender receiver) {n = n} e rest .same) }
+gives-step p {byte = byte} {n = n} {js = js} {steps = steps} e rest =
+    let bus = onBus standardLimits in
+    record {
+      same =
+          map-append bus (replicate n p) js
+          ∙ ap (λ w. w ++ map bus js) (map-replicate bus n p)
+          ∙ ap₂ (λ (t : Tick) w. replicate n t ++ w) (sym e) (rest .same)
+          ∙ ap (λ w. w ++ ticksShown steps) (all-same (tick false (linesOf byte)) n refl)
+          ∙ sym (step-shows (record { duration = n; lines = byte; last = 0 }) (ticks steps));
+    }
 
-gives-last : (p : Pulls) {byte n : ℕ} → linesOf byte ≡ onBus standardLimits p
+gives-last : (p : Pulls) {byte n : ℕ} → tick false (linesOf byte) ≡ onBus standardLimits p
     → Gives (replicate n p) (record { duration = n; lines = byte; last = 0 } ∷ [])
 gives-last p {n = n} e = rw (← (append-nil (replicate n p))) (gives-step p e gives-nothing)
 
 -- The line byte of a bit's step, d being the bit.
-bit-lines : (clk : Bool) (d : ℕ) → d < 2 → linesOf (2 * (if clk then 1 else 0) + 4 * d) ≡ lines false clk (eqb d 1)
+bit-lines : (clk : Bool) (d : ℕ) → d < 2
+    → tick false (linesOf (2 * (if clk then 1 else 0) + 4 * d)) ≡ unmarked false clk (eqb d 1)
 bit-lines true zero h = refl
 bit-lines true (suc zero) h = refl
 bit-lines false zero h = refl

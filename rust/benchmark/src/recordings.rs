@@ -69,7 +69,7 @@ fn recording(name: &'static str, file: Vec<u8>) -> Recording {
 }
 
 pub fn step(duration: u16, lines: u8) -> Step {
-    Step { duration, lines }
+    Step::new(duration, lines)
 }
 
 /// The steps of a transfer that keeps both parties' rules.

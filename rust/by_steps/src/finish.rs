@@ -10,7 +10,7 @@
 //! gives it, offset 1, so its finish comes at offset 101 or later.
 
 use crate::limits::FINISH_AFTER_TAKE;
-use crate::numbers::{ATTENTION_RELEASED, COMPLETE, MOVED_AFTER_THE_END};
+use crate::numbers::{ATTENTION_RELEASED, COMPLETE, MOVED_AFTER_THE_END, OVERRUN};
 use crate::reader::{Decision, Reader};
 use crate::step::Lines;
 
@@ -44,18 +44,20 @@ pub fn finish(
     }
 }
 
-/// "After the finish only a pull of ATN matters: 37."
+/// "After the finish only a pull of ATN matters: 37." And a mark (#103): 40.
 pub fn after_finish(reader: &Reader, finish: Decision) -> Decision {
-    let mut tick = finish.tick;
-    for (number, step) in (finish.step..).zip(reader.steps_from_attention()) {
+    let mut at = finish;
+    for step in reader.steps_from_attention() {
         if step.attention_pulled() {
-            return Decision {
-                number: MOVED_AFTER_THE_END,
-                tick,
-                step: number,
-            };
+            at.number = MOVED_AFTER_THE_END;
+            return at;
         }
-        tick += step.duration();
+        at.tick += step.duration();
+        at.step += 1;
+    }
+    if reader.overrun() {
+        at.number = OVERRUN;
+        return at;
     }
     finish
 }

@@ -1,7 +1,7 @@
 //! Goes through the steps of a recording, and says where a tick lies in them.
 
 use crate::entry::Entry;
-use crate::numbers::CUT;
+use crate::numbers::{CUT, OVERRUN};
 use crate::recording::Recording;
 use crate::step::{Lines, Step, StepBytes};
 
@@ -16,10 +16,12 @@ pub struct Decision {
 
 /// Stands at one step of a recording.
 pub struct Reader<'a> {
-    /// The steps before ATN first moves.
+    /// The steps before ATN first moves, and before any mark.
     steps: &'a [StepBytes],
-    /// The steps from there on.
+    /// The steps from there on, before any mark.
     from_attention: &'a [StepBytes],
+    /// Whether a marked step follows them.
+    overrun: bool,
     /// The step's number.
     number: usize,
     step: Step,
@@ -37,12 +39,19 @@ impl<'a> Reader<'a> {
     /// out of them gives 23 in place of 22, at the same place: the tick and the
     /// step that follow the last one read. In a command recording a tick with
     /// ATN released gives 39 likewise, "tested before the phase's rows".
+    ///
+    /// #103: "The first tick of a marked step gives verdict 40, before ATN is
+    /// looked at." So with 40 it is the same, but that no step from a mark on is
+    /// read for its ATN either.
     pub fn new(recording: &Recording<'a>, entry: Entry) -> Result<Self, Decision> {
         let (steps, from_attention) = recording.split_at_attention(entry.attention_pulled());
-        let run_out = if from_attention.is_empty() {
-            CUT
-        } else {
+        let overrun = recording.marked();
+        let run_out = if !from_attention.is_empty() {
             entry.attention_moved()
+        } else if overrun {
+            OVERRUN
+        } else {
+            CUT
         };
         let Some(&first) = steps.first() else {
             return Err(Decision {
@@ -55,6 +64,7 @@ impl<'a> Reader<'a> {
         Ok(Reader {
             steps,
             from_attention,
+            overrun,
             number: 0,
             step,
             end_tick: step.duration(),
@@ -126,7 +136,7 @@ impl<'a> Reader<'a> {
         Ok(seen)
     }
 
-    /// The steps from the one on in which ATN first moves.
+    /// The steps from the one on in which ATN first moves, before any mark.
     pub fn steps_from_attention(&self) -> impl Iterator<Item = Step> + 'a {
         self.from_attention.iter().copied().map(Step::of)
     }
@@ -134,6 +144,11 @@ impl<'a> Reader<'a> {
     /// The lines of the tick in which ATN first moves, if there is one.
     pub fn lines_at_attention(&self) -> Option<Lines> {
         self.steps_from_attention().next().map(Step::lines)
+    }
+
+    /// Whether a marked step follows those.
+    pub fn overrun(&self) -> bool {
+        self.overrun
     }
 
     #[inline]

@@ -19,6 +19,7 @@ const LEAST_LEDGER_PLACES: usize = 2_000;
 pub struct Recording<'a> {
     steps: &'a [StepBytes],
     attention: bool,
+    marked: bool,
 }
 
 impl<'a> Recording<'a> {
@@ -26,16 +27,32 @@ impl<'a> Recording<'a> {
         self.steps.iter().copied().map(Step::of)
     }
 
-    /// The steps before the first whose ATN isn't as `pulled` says, and those
-    /// from it on. The form check has met every step already, so a first pull is
-    /// looked for only where there is one.
-    pub(crate) fn split_at_attention(&self, pulled: bool) -> (&'a [StepBytes], &'a [StepBytes]) {
-        if !pulled && !self.attention {
-            return (self.steps, &[]);
+    /// Whether any step is marked.
+    pub fn marked(&self) -> bool {
+        self.marked
+    }
+
+    /// The steps before the first marked one. The form check has met every step
+    /// already, so a mark is looked for only where there is one.
+    fn before_mark(&self) -> &'a [StepBytes] {
+        if !self.marked {
+            return self.steps;
         }
-        let steps = self.steps();
+        let before = self.steps().take_while(|step| !step.marked());
+        &self.steps[..before.count()]
+    }
+
+    /// Of the steps before any mark: those before the first whose ATN isn't as
+    /// `pulled` says, and those from it on. A first pull, too, is looked for only
+    /// where there is one.
+    pub(crate) fn split_at_attention(&self, pulled: bool) -> (&'a [StepBytes], &'a [StepBytes]) {
+        let unmarked = self.before_mark();
+        if !pulled && !self.attention {
+            return (unmarked, &[]);
+        }
+        let steps = unmarked.iter().copied().map(Step::of);
         let before = steps.take_while(|step| step.attention_pulled() == pulled);
-        self.steps.split_at(before.count())
+        unmarked.split_at(before.count())
     }
 }
 
@@ -59,6 +76,7 @@ pub fn check(
     Ok(Recording {
         steps,
         attention: survey.attention,
+        marked: survey.marked,
     })
 }
 
@@ -90,6 +108,7 @@ struct Survey {
     ticks: u32,
     fault: bool,
     attention: bool,
+    marked: bool,
 }
 
 impl Survey {
@@ -105,6 +124,7 @@ impl Survey {
             ticks,
             fault: zero || met.has_other_bits(),
             attention: met.attention_pulled(),
+            marked: met.marked(),
         }
     }
 }

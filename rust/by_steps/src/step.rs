@@ -1,4 +1,4 @@
-//! One step of a recording: its duration and its lines.
+//! One step of a recording: its duration, its lines and its mark.
 
 use core::ops::{BitAnd, BitOr};
 
@@ -8,17 +8,18 @@ pub(crate) const STEP_BYTES: usize = 4;
 pub(crate) type StepBytes = [u8; STEP_BYTES];
 
 /// The four bytes as one number, little-endian: the duration below, the lines
-/// from bit 16 on, the zero byte on top.
+/// from bit 16 on, the last byte with the mark on top.
 #[derive(Clone, Copy)]
 pub struct Step(u32);
 
 impl Step {
     const DURATION: u32 = 0xFFFF;
     const ATTENTION: u32 = 1 << 16;
-    /// Of the lines byte "the rest 0", and the last byte with it.
-    const NEVER_SET: u32 = 0xFFF0 << 16;
+    const MARK: u32 = 1 << 24;
+    /// Of the lines byte "the rest 0", and of the last byte all but the mark.
+    const NEVER_SET: u32 = 0xFEF0 << 16;
 
-    /// ATN and SRQ released.
+    /// ATN and SRQ released, and no mark.
     pub(crate) fn new(duration: u16, lines: Lines) -> Self {
         Step(u32::from(duration) | lines.0)
     }
@@ -47,7 +48,14 @@ impl Step {
         Lines(self.0) & Lines::PULLED
     }
 
-    /// Whether the step has other line bits, or a last byte that isn't 0.
+    /// #103: "The recorder now marks a step before which ticks were lost: its
+    /// last byte is 1."
+    #[inline]
+    pub fn marked(self) -> bool {
+        self.0 & Self::MARK != 0
+    }
+
+    /// Whether the step has "other line bits or a last byte above 1".
     #[inline]
     pub(crate) fn has_other_bits(self) -> bool {
         self.0 & Self::NEVER_SET != 0

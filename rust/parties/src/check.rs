@@ -1,5 +1,6 @@
 //! The words of demand 3 on the shown pair: "It is a pair for the string, it gives the recording, and its two ticks for
-//! each byte are the ledger's." (document 01, "The two parties' own rules")
+//! each byte are the ledger's." (document 01, "The two parties' own rules") And request #103's: "some pair exists and no
+//! step is marked".
 
 use crate::rules::check_pair;
 use crate::shown::shown;
@@ -27,16 +28,31 @@ pub fn check_shown_command(recording: &[u8], string: &[u8], ledger: &[u32]) -> R
     check_shown(&lines, string, ledger, Kind::command_in(&lines))
 }
 
-/// For a recording of this kind. ATN comes first: where it is wrong, it is not known which ticks bind.
+/// For a recording of this kind. Marks come first, for what is shown after lost ticks is not known; then ATN: where it is
+/// wrong, it is not known which ticks bind.
 fn check_shown(lines: &Lines, string: &[u8], ledger: &[u32], kind: Kind) -> Result<(), String> {
     if ledger.len() != 2 * string.len() {
         return Err("the ledger has two ticks for each byte".to_string());
     }
+    check_unmarked(lines)?;
     check_attention(kind, lines)?;
     let pair = shown(lines, ledger, kind)?;
     check_pair(&pair, string)?;
     check_given(&pair, lines)?;
     check_ticks(&pair, string, ledger)
+}
+
+/// Request #103: "Demand 3 then reads: some pair exists and no step is marked." This is the second half. It is no rule of a
+/// party and no matter of which pair gives the recording: a marked one is explained by no pair, whatever its lines show.
+///
+/// # Errors
+///
+/// The first tick of the first marked step.
+pub fn check_unmarked(lines: &Lines) -> Result<(), String> {
+    match lines.first_mark {
+        None => Ok(()),
+        Some(tick) => Err(format!("tick {tick}: no step is marked: it is not so")),
+    }
 }
 
 /// "The pair *gives* the recording if ATN is released, CLK is the sender's and DATA is pulled exactly when either pulls."

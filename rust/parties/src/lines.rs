@@ -1,8 +1,9 @@
 //! A recording's bytes read into the ticks at which each line is pulled: document 01, "Recording layout".
 
-use crate::Track;
+use crate::{Track, MARKED};
 
-/// What a recording means: for each line the ticks at which it is pulled. SRQ is left out, for it changes no answer.
+/// What a recording means: for each line the ticks at which it is pulled, and where ticks were lost. SRQ is left out, for
+/// it changes no answer.
 #[derive(Clone, Debug, Default, PartialEq, Eq)]
 pub struct Lines {
     /// ATN.
@@ -11,6 +12,8 @@ pub struct Lines {
     pub clock: Track,
     /// DATA.
     pub data: Track,
+    /// The first tick of the first marked step, before which ticks were lost; none if no step is marked.
+    pub first_mark: Option<u32>,
     /// How many ticks there are.
     pub total: u32,
 }
@@ -29,8 +32,11 @@ impl Lines {
         let mut lines = Lines::default();
         for (place, step) in steps.chunks_exact(4).enumerate() {
             let duration = u16::from_le_bytes([step[0], step[1]]);
-            if duration == 0 || step[2] > 15 || step[3] != 0 {
+            if duration == 0 || step[2] > 15 || step[3] > MARKED {
                 return Err(format!("not of good form: step {place} is {step:?}"));
+            }
+            if step[3] == MARKED {
+                lines.first_mark.get_or_insert(lines.total);
             }
             lines.add(u32::from(duration), step[2]);
         }

@@ -30,8 +30,8 @@ const DATA: u8 = 4;
 const SERVICE_REQUEST: u8 = 8;
 
 impl Pair {
-    /// The recording that the pair gives, as few steps as there can be: ATN is what its kind says, "CLK is the sender's and
-    /// DATA is pulled exactly when either pulls".
+    /// The recording that the pair gives, as few steps as there can be and none of them marked: ATN is what its kind says,
+    /// "CLK is the sender's and DATA is pulled exactly when either pulls".
     #[must_use]
     pub fn steps(&self) -> Vec<Step> {
         let mut steps = Vec::new();
@@ -70,7 +70,7 @@ fn append(steps: &mut Vec<Step>, ticks: u32, lines: u8) {
     }
     while left > 0 {
         let duration = left.min(most) as u16;
-        steps.push(Step { duration, lines });
+        steps.push(Step::new(duration, lines));
         left -= u32::from(duration);
     }
 }

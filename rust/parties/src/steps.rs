@@ -16,6 +16,32 @@ pub struct Step {
     pub duration: u16,
     /// Bit 0 ATN, 1 CLK, 2 DATA, 3 SRQ; 1 is pulled.
     pub lines: u8,
+    /// The last byte: [`MARKED`] if ticks were lost before the step, otherwise 0.
+    pub mark: u8,
+}
+
+/// Request #103: "The recorder now marks a step before which ticks were lost: its last byte is 1."
+pub const MARKED: u8 = 1;
+
+impl Step {
+    /// A step without a mark.
+    #[must_use]
+    pub const fn new(duration: u16, lines: u8) -> Step {
+        Step {
+            duration,
+            lines,
+            mark: 0,
+        }
+    }
+
+    /// The same step, marked.
+    #[must_use]
+    pub const fn marked(self) -> Step {
+        Step {
+            mark: MARKED,
+            ..self
+        }
+    }
 }
 
 /// How many ticks the steps have.
@@ -36,7 +62,7 @@ pub fn file_of(steps: &[Step]) -> Vec<u8> {
     file.extend((length as u32).to_le_bytes());
     for step in steps {
         let [low, high] = step.duration.to_le_bytes();
-        file.extend([low, high, step.lines, 0]);
+        file.extend([low, high, step.lines, step.mark]);
     }
     file
 }
@@ -47,6 +73,7 @@ pub fn steps_of(file: &[u8]) -> Vec<Step> {
     let step = |bytes: &[u8]| Step {
         duration: u16::from_le_bytes([bytes[0], bytes[1]]),
         lines: bytes[2],
+        mark: bytes[3],
     };
     file[HEADER..].chunks_exact(4).map(step).collect()
 }

@@ -137,7 +137,7 @@ fn a_recording_of_bad_form_is_found() {
         (12, 0),
         (16, 0),
         (18, 0x16),
-        (19, 1),
+        (19, 2),
     ] {
         let mut wrong = S1.to_vec();
         wrong[place] = value;

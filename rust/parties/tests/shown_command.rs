@@ -15,7 +15,7 @@ const FINISH: usize = 1580;
 const LEDGER: [u32; 2] = [1350, 1380];
 
 fn step(duration: u16, lines: u8) -> Step {
-    Step { duration, lines }
+    Step::new(duration, lines)
 }
 
 /// The hold, ready to send and ready for data, and then a byte's bits, all under ATN.

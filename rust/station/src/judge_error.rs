@@ -15,7 +15,8 @@ use core::fmt;
 /// assert_eq!(fault.to_string(), sentence);
 ///
 /// let refusal = JudgeError::Refusal { refusal: Refusal::StrayBits, step: 3 };
-/// assert_eq!(refusal.to_string(), "refusal 7 (stray-bits) at step 3: a step with bits that mean nothing");
+/// let sentence = "refusal 7 (stray-bits) at step 3: a step with line bits beyond the four, or a last byte above 1";
+/// assert_eq!(refusal.to_string(), sentence);
 /// ```
 #[derive(Clone, Copy, Debug, PartialEq, Eq, Hash)]
 pub enum JudgeError {

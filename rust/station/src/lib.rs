@@ -1,10 +1,10 @@
 //! The station's judge and writer, proved in Rattle, for programs in Rust.
 //!
-//! A recording of the bus lines goes in as bytes. If its stream was finished, and a sender and a receiver that keep the
-//! rules could have made it, a [`Transfer`] comes out; anything else is a [`JudgeError`]. **`Ok` is the only pass**, the
-//! station's number 20. An empty stream is a time-out, a cut recording proves nothing, a refusal says that the file was not
-//! judged at all: each is an error, also where bytes were handed over before. What the numbers mean, and the exact rules,
-//! stand in `docs/RULES.md` of the repository.
+//! A recording of the bus lines goes in as bytes. If its stream was finished, a sender and a receiver that keep the rules
+//! could have made it and the recorder lost none of its ticks, a [`Transfer`] comes out; anything else is a [`JudgeError`].
+//! **`Ok` is the only pass**, the station's number 20. An empty stream is a time-out, a cut recording or one with lost ticks
+//! proves nothing, a refusal says that the file was not judged at all: each is an error, also where bytes were handed over
+//! before. What the numbers mean, and the exact rules, stand in `docs/RULES.md` of the repository.
 //!
 //! ```
 //! # #[cfg(feature = "std")] {

@@ -47,6 +47,7 @@ numbers! {
         MovedAfterTheEnd = 37 "moved-after-the-end": "a line moved after the transfer was finished",
         EndMarkUnderAttention = 38 "end-mark-under-attention": "the sender stayed silent for 200 ticks, an end mark, while ATN was pulled",
         AttentionReleased = 39 "attention-released": "ATN was released before the commands were finished",
+        Overrun = 40 "overrun": "the recorder lost ticks before this step: nothing can be said of the transfer; record it again",
     }
 
     /// Why the judge refused a recording, or the memory it was lent. It says nothing of a drive.
@@ -58,7 +59,7 @@ numbers! {
         WrongOffset = 4 "wrong-offset": "the steps do not begin at 16",
         WrongLength = 5 "wrong-length": "the length, by the header or truly, is not that of its steps",
         ZeroDuration = 6 "zero-duration": "a step of no ticks",
-        StrayBits = 7 "stray-bits": "a step with bits that mean nothing",
+        StrayBits = 7 "stray-bits": "a step with line bits beyond the four, or a last byte above 1",
         WrongTotal = 8 "wrong-total": "the total is not the sum of the steps",
         ShortBuffers = 9 "short-buffers": "too little memory was lent",
     }

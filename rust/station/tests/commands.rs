@@ -47,10 +47,29 @@ fn a_fault_after_a_byte_leaves_the_byte_and_is_an_error() {
 }
 
 #[test]
+fn a_mark_before_the_handover_leaves_out_the_byte_that_waits() {
+    let (mut bytes, mut ledger) = (BYTES, LEDGER);
+    for (step, tick, count) in [(0, 0, 0), (21, 1580, 0), (22, 1630, 1), (41, 2960, 1)] {
+        let mut recording = ADDRESSED.to_vec();
+        recording[16 + 4 * step as usize + 3] = 1;
+        let due = JudgeError::Fault {
+            fault: Fault::Overrun,
+            tick,
+            step,
+            count,
+        };
+        let judged = judge_command(&recording, &mut bytes, &mut ledger);
+        assert_eq!(judged, Err(due));
+    }
+    assert_eq!((bytes[0], &ledger[..2]), (0x28, &[1350, 1380][..]));
+    assert_eq!((&bytes[1..], &ledger[2..]), (&BYTES[1..], &LEDGER[2..]));
+}
+
+#[test]
 fn a_refusal_changes_nothing() {
     let (mut bytes, mut ledger) = (BYTES, LEDGER);
     let mut stray = ADDRESSED.to_vec();
-    stray[16 + 4 * 3 + 3] = 1;
+    stray[16 + 4 * 3 + 3] = 2;
     let refused = |refusal, step| Err(JudgeError::Refusal { refusal, step });
     assert_eq!(
         judge_command(&stray, &mut bytes, &mut ledger),

@@ -51,11 +51,34 @@ fn a_fault_after_a_byte_leaves_the_byte_and_is_an_error() {
 }
 
 #[test]
+fn a_mark_is_an_error_at_its_step_and_says_what_to_do() {
+    let (mut bytes, mut ledger) = (BYTES, LEDGER);
+    let mut recording = *include_bytes!("../../../samples/s1.rec");
+    recording[16 + 4 * 24 + 3] = 1;
+    let error = judge(&recording, &mut bytes, &mut ledger).unwrap_err();
+    let due = JudgeError::Fault {
+        fault: Fault::Overrun,
+        tick: 1910,
+        step: 24,
+        count: 1,
+    };
+    assert_eq!(error, due);
+    assert_eq!((error.number(), error.name()), (40, "overrun"));
+    assert_eq!(
+        error.to_string(),
+        "fault 40 (overrun) at tick 1910, step 24: the recorder lost ticks before this step: \
+         nothing can be said of the transfer; record it again"
+    );
+    assert_eq!((bytes[0], &ledger[..2]), (0x41, &[1630, 1660][..]));
+    assert_eq!((&bytes[1..], &ledger[2..]), (&BYTES[1..], &LEDGER[2..]));
+}
+
+#[test]
 fn a_refusal_changes_nothing() {
     let (mut bytes, mut ledger) = (BYTES, LEDGER);
     let s1 = include_bytes!("../../../samples/s1.rec");
     let mut stray = *s1;
-    stray[16 + 4 * 3 + 3] = 1;
+    stray[16 + 4 * 3 + 3] = 2;
     let refused = |refusal, step| Err(JudgeError::Refusal { refusal, step });
     assert_eq!(
         judge(&stray, &mut bytes, &mut ledger),

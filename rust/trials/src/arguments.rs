@@ -10,8 +10,8 @@ Compares the station's judge, by both of its entries, and its writer, through th
 on COUNT drawn cases (1,000,000 if not given), and holds what they leave to the two parties' own rules. With --case it
 draws one case again and prints it.
 
-Exit status: 0 only if there was no difference and every number came up at each entry that has it; 1 otherwise; 2 for
-wrong usage.";
+Exit status: 0 only if there was no difference and every number, and every place of a mark, came up at each entry that
+has it; 1 otherwise; 2 for wrong usage.";
 
 /// How many cases there are if it is not said.
 const COUNT: u64 = 1_000_000;

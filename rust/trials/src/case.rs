@@ -3,7 +3,7 @@
 use crate::entry::Entry;
 use parties::draw::{self, Style};
 use parties::{check_pair, file_of, ticks_of, Kind, Pair, Random, Step, Transfer};
-use station::Fault;
+use station::{Fault, Refusal};
 
 /// What must come of a case, besides both judges agreeing.
 #[derive(Clone, Copy, Debug, Default, PartialEq, Eq)]
@@ -24,6 +24,13 @@ pub enum Expected {
     },
     /// It is an empty stream.
     Empty,
+    /// It is refused, before the lent memory is looked at, for this step.
+    Refused {
+        /// The refusal.
+        refusal: Refusal,
+        /// The step.
+        step: u32,
+    },
 }
 
 /// One case; a default one is empty.

@@ -8,6 +8,7 @@ mod handovers;
 mod legal;
 mod limits;
 mod many_bytes;
+mod marked;
 mod noise;
 mod written;
 
@@ -47,15 +48,16 @@ const fn recordings(name: &'static str, share: u32, draw: fn(&mut Random, &mut C
 }
 
 /// Every class. The shares add up to a thousand.
-pub const CLASSES: [Class; 10] = [
-    recordings("legal", 200, legal::draw),
+pub const CLASSES: [Class; 11] = [
+    recordings("legal", 180, legal::draw),
     recordings("many-bytes", 3, many_bytes::draw),
-    recordings("limits", 256, limits::draw),
-    recordings("handovers", 130, handovers::draw),
+    recordings("limits", 236, limits::draw),
+    recordings("handovers", 120, handovers::draw),
     recordings("attention", 50, attention::draw),
     recordings("crossed", 20, crossed::draw),
-    recordings("damaged", 190, damaged::draw),
-    recordings("noise", 120, noise::draw),
+    recordings("damaged", 180, damaged::draw),
+    recordings("noise", 100, noise::draw),
+    recordings(marked::NAME, 80, marked::draw),
     recordings("extremes", 3, extremes::draw),
     Class {
         name: "written",

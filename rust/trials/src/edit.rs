@@ -1,4 +1,4 @@
-//! Edits of a list of steps.
+//! Edits of a list of steps. A mark is the first tick's, and stays there.
 
 use crate::case::Case;
 use parties::{ticks_of, Random, Step, MOST_STEPS};
@@ -11,7 +11,7 @@ impl Case {
             while room > 0 && rest.duration > 1 && random.one_in(one_in) {
                 let duration = random.between(1, u32::from(rest.duration) - 1) as u16;
                 self.steps.push(Step { duration, ..rest });
-                rest.duration -= duration;
+                rest = Step::new(rest.duration - duration, rest.lines);
                 room -= 1;
             }
             self.steps.push(rest);
@@ -39,11 +39,14 @@ impl Case {
             let first = from.clamp(tick, end);
             let last = until.clamp(first, end);
             let parts = [(first - tick, 0), (last - first, mask), (end - last, 0)];
+            let mut mark = step.mark;
             for (ticks, turned) in parts.into_iter().filter(|part| part.0 > 0) {
                 self.steps.push(Step {
                     duration: ticks as u16,
                     lines: step.lines ^ turned,
+                    mark,
                 });
+                mark = 0;
             }
             tick = end;
         }
@@ -66,6 +69,25 @@ impl Case {
         }
     }
 
+    /// Makes a step begin at a tick of the recording, if none does, and gives its place.
+    pub fn begin_step_at(&mut self, tick: u32) -> usize {
+        let mut end = 0;
+        let holds = |step: &Step| {
+            end += u32::from(step.duration);
+            tick < end
+        };
+        let place = self.steps.iter().position(holds);
+        let place = place.expect("the tick is one of the recording's");
+        let rest = (end - tick) as u16;
+        if rest == self.steps[place].duration {
+            return place;
+        }
+        self.steps[place].duration -= rest;
+        let second = Step::new(rest, self.steps[place].lines);
+        self.steps.insert(place + 1, second);
+        place + 1
+    }
+
     /// A tick at which a step begins, or one tick before or after it: where a rule's limit is likely to lie.
     pub fn tick_by_a_change(&self, random: &mut Random) -> u32 {
         let place = random.place(self.steps.len());
@@ -79,17 +101,25 @@ mod tests {
     use super::*;
 
     fn case() -> Case {
-        let mut case = Case::default();
-        for (duration, lines) in [(3, 2), (1, 6), (5, 0)] {
-            case.steps.push(Step { duration, lines });
+        let steps = [
+            Step::new(3, 2),
+            Step::new(1, 6).marked(),
+            Step::new(5, 0).marked(),
+        ];
+        Case {
+            steps: steps.to_vec(),
+            ..Case::default()
         }
-        case
     }
 
-    /// The lines at every tick.
-    fn ticks(case: &Case) -> Vec<u8> {
-        let each = |step: &Step| std::iter::repeat_n(step.lines, usize::from(step.duration));
-        case.steps.iter().flat_map(each).collect()
+    /// The lines and the mark at every tick.
+    fn ticks(case: &Case) -> Vec<(u8, u8)> {
+        let mut ticks = Vec::new();
+        for step in &case.steps {
+            ticks.push((step.lines, step.mark));
+            ticks.extend((1..step.duration).map(|_| (step.lines, 0)));
+        }
+        ticks
     }
 
     #[test]
@@ -107,15 +137,28 @@ mod tests {
             for until in from..12 {
                 let mut turned = case();
                 turned.turn_over(from, until, 5);
-                for (tick, lines) in ticks(&case()).into_iter().enumerate() {
+                for (tick, (lines, mark)) in ticks(&case()).into_iter().enumerate() {
                     let inside = (from..until).contains(&(tick as u32));
-                    assert_eq!(ticks(&turned)[tick], if inside { lines ^ 5 } else { lines });
+                    let lines = if inside { lines ^ 5 } else { lines };
+                    assert_eq!(ticks(&turned)[tick], (lines, mark));
                 }
                 assert_eq!(ticks_of(&turned.steps), 9);
             }
             let mut cut = case();
             cut.cut_at(from);
             assert_eq!(ticks(&cut), ticks(&case())[..9.min(from as usize)]);
+        }
+    }
+
+    #[test]
+    fn a_step_begins_at_every_tick_that_is_asked_for() {
+        for tick in 0..9 {
+            let mut begun = case();
+            let place = begun.begin_step_at(tick);
+            assert_eq!(ticks_of(&begun.steps[..place]), tick);
+            assert_eq!(ticks(&begun), ticks(&case()));
+            let begins = [0, 3, 4].contains(&tick);
+            assert_eq!(begun.steps.len(), if begins { 3 } else { 4 });
         }
     }
 }

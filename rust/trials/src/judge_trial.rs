@@ -2,7 +2,9 @@
 
 use crate::case::{Case, Expected};
 use crate::entry::Entry;
+use crate::fell::Fell;
 use crate::judge_memory::{JudgeMemory, Places};
+use crate::mark::check_mark;
 use crate::outcome::{same, same_answer, Outcome};
 use crate::place::check_place;
 use by_steps::Answer;
@@ -15,6 +17,8 @@ pub struct JudgeTrial {
     memory: JudgeMemory,
     /// How many shown pairs were held to the parties' rules.
     pub shown_pairs: u64,
+    /// Where the first mark of the latest recording fell.
+    pub fell: Option<Fell>,
 }
 
 impl JudgeTrial {
@@ -23,11 +27,13 @@ impl JudgeTrial {
         JudgeTrial {
             memory: JudgeMemory::new(),
             shown_pairs: 0,
+            fell: None,
         }
     }
 
     /// Judges the case's recording twice and compares all there is to compare.
     pub fn run(&mut self, random: &mut Random, case: &Case) -> Outcome {
+        self.fell = None;
         let memory = &mut self.memory;
         let places = memory.lend(random, &case.file);
         let answer = case.entry.judge()(
@@ -44,6 +50,7 @@ impl JudgeTrial {
             .and_then(|()| self.memory.check(answer.count as usize, places, &case.file))
             .and_then(|()| check_entry(answer, case))
             .and_then(|()| check_place(case.entry, answer, &case.file))
+            .and_then(|()| self.check_mark(answer, places, case))
             .and_then(|()| self.check_shown(answer, places, case))
             .and_then(|()| self.check_expected(answer, places, case));
         Outcome {
@@ -51,6 +58,13 @@ impl JudgeTrial {
             other,
             wrong,
         }
+    }
+
+    /// Request #103 on every recording.
+    fn check_mark(&mut self, answer: Answer, places: Places, case: &Case) -> Result<(), String> {
+        let left = self.memory.left(answer, places);
+        self.fell = check_mark(case.entry, answer, left, &case.file)?;
+        Ok(())
     }
 
     /// Demand 3 on every recording judged complete.
@@ -72,6 +86,10 @@ impl JudgeTrial {
     fn check_expected(&self, answer: Answer, places: Places, case: &Case) -> Result<(), String> {
         let number = match case.expected {
             Expected::Nothing => return Ok(()),
+            Expected::Refused { refusal, step } if step == answer.step => refusal.number(),
+            Expected::Refused { step, .. } => {
+                return Err(format!("it must be refused for step {step}"))
+            }
             _ if !places.enough => Refusal::ShortBuffers.number(),
             Expected::Empty => Fault::EmptyStream.number(),
             Expected::Fault { fault, tick } if tick == answer.tick => fault.number(),

@@ -70,7 +70,7 @@ mod tests {
         let commands = [(3, 7), (2, 7), (4, 6), (1, 0)];
         let [one, other] =
             [(Entry::Data, data), (Entry::Command, commands)].map(|(entry, lines)| {
-                let steps = lines.map(|(duration, lines)| Step { duration, lines });
+                let steps = lines.map(|(duration, lines)| Step::new(duration, lines));
                 check_place(entry, answer, &file_of(&steps)).is_ok()
             });
         assert_eq!(one, other);

@@ -2,11 +2,12 @@
 
 use crate::classes::CLASSES;
 use crate::entry::Entry;
+use crate::fell::Fell;
 use station::{WriteRefusal, WRITTEN};
 use std::collections::HashMap;
 use trials::numbers;
 
-/// From how many cases on every number must have come up.
+/// From how many cases on every number must have come up, and every place of a mark.
 const ENOUGH: u64 = 10_000;
 
 /// Who answered.
@@ -47,6 +48,8 @@ pub struct Tally {
     /// How often each number came up, by the columns.
     numbers: HashMap<u32, [u64; ALL.len()]>,
     classes: [u64; CLASSES.len()],
+    /// How often the first mark fell where, by the entries.
+    marks: [[u64; Entry::ALL.len()]; Fell::ALL.len()],
     /// How many shown pairs were held to the parties' rules.
     pub shown_pairs: u64,
     /// How many command bytes have different classes.
@@ -64,6 +67,15 @@ impl Tally {
     /// Counts an answer of the library's judge by this entry.
     pub fn count_judged(&mut self, entry: Entry, number: u32) {
         self.count(By::Entry(entry), number);
+    }
+
+    /// Counts a recording for this entry by where its first mark fell.
+    pub fn count_mark(&mut self, entry: Entry, fell: Option<Fell>) {
+        for (times, one) in self.marks.iter_mut().zip(Fell::ALL) {
+            for (times, by) in times.iter_mut().zip(Entry::ALL) {
+                *times += u64::from(fell == Some(one) && by == entry);
+            }
+        }
     }
 
     /// Counts an answer of the library's writer.
@@ -88,13 +100,20 @@ impl Tally {
         std::array::from_fn(|place| self.numbers.values().map(|times| times[place]).sum())
     }
 
-    /// The numbers that never came up where they may, and where.
+    /// The numbers, and the places of a mark, that never came up where they may, and where.
     fn missing(&self) -> Vec<String> {
         let mut missing = Vec::new();
         for (number, name) in numbers() {
             for (times, by) in self.times(number).into_iter().zip(ALL) {
                 if times == 0 && by.gives(number) {
                     missing.push(format!("number {number} {name}, {}", by.name()));
+                }
+            }
+        }
+        for (times, fell) in self.marks.into_iter().zip(Fell::ALL) {
+            for (times, entry) in times.into_iter().zip(Entry::ALL) {
+                if times == 0 && fell.is_for(entry) {
+                    missing.push(format!("mark {}, {}", fell.name(), entry.name()));
                 }
             }
         }
@@ -110,7 +129,7 @@ impl Tally {
         let cases: u64 = self.classes.iter().sum();
         let too_few = cases >= ENOUGH && !self.missing().is_empty();
         let note = if too_few {
-            "; NOT EVERY NUMBER OCCURRED"
+            "; NOT EVERY NUMBER OR MARK OCCURRED"
         } else {
             ""
         };
@@ -129,6 +148,10 @@ impl Tally {
         for (number, name) in numbers() {
             let times = self.times(number).map(|times| format!("{times:>9}"));
             println!("{number:>6}  {name:<25}{}", times.concat());
+        }
+        for (times, fell) in self.marks.into_iter().zip(Fell::ALL) {
+            let times = times.map(|times| format!("{times:>9}"));
+            println!("  mark  {:<25}{}", fell.name(), times.concat());
         }
         for (class, times) in CLASSES.iter().zip(self.classes) {
             println!("class {:<12} {times:>8} cases", class.name);

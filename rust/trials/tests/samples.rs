@@ -80,10 +80,7 @@ fn every_sample_of_commands_has_its_stored_answer() {
 #[test]
 fn the_longest_recording_is_judged_to_its_end() {
     // The receiver takes DATA at tick 0, and the sender never goes on. Tick by tick it would take seconds.
-    let hold = Step {
-        duration: LONGEST,
-        lines: 6,
-    };
+    let hold = Step::new(LONGEST, 6);
     let file = file_of(&[hold; MOST_STEPS]);
     for judge in JUDGES {
         let answer = judge(&file, &mut [0; 1000], &mut [0; 2000]);

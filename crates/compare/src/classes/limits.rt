@@ -6,12 +6,15 @@ use crate::entry::Entry;
 use crate::made::draft;
 use crate::made::transfer::Transfer;
 
-// Each value of the line bits, each duration, and each step of both bases and of the recording written from no bytes.
+// Each value of the line bits, each duration, and each step.
 const LINES: u32 = 16;
 
 pub(crate) const DURATIONS: u32 = 45;
 
-const CASES: u32 = (2 * BASE_STEPS + 5) * DURATIONS * LINES;
+const CASES: u32 = STEPS * DURATIONS * LINES;
+
+// Of how many steps there are limits: those of both bases, and of the recording written from no bytes.
+pub(crate) const STEPS: u32 = 2 * BASE_STEPS + 5;
 
 // 1 stands for the least durations; 212 for 512 ticks after a gap of 220 and an acknowledgement of 80; 230 and 350 are
 // beyond one limit and before the next.
@@ -34,10 +37,16 @@ const LIMITS: [u32; 15] = [
 ];
 
 pub(crate) fn put(entry: Entry, number: u32, file: &mut [u8]) -> Case {
-    let step = put_base(entry, file, number / LINES / DURATIONS);
-    draft::set_duration(file, step, duration_of(number / LINES));
-    draft::set_lines(file, step_after(file, step), (number % LINES) as u8);
+    let after = put_limit(entry, number / LINES, file);
+    draft::set_lines(file, after, (number % LINES) as u8);
     Case::of_file(*b"limits    ", CASES, entry, file)
+}
+
+// Each step with each duration. Gives the step after it.
+pub(crate) fn put_limit(entry: Entry, place: u32, file: &mut [u8]) -> u32 {
+    let step = put_base(entry, file, place / DURATIONS);
+    draft::set_duration(file, step, duration_of(place));
+    step_after(file, step)
 }
 
 // A tick less than a limit, the limit, and a tick more.
@@ -69,7 +78,7 @@ pub(crate) fn put_base(entry: Entry, file: &mut [u8], place: u32) -> u32 {
 // After the last step comes the first.
 fn step_after(file: &[u8], step: u32) -> u32 {
     let next = std::num::wrapping_add_u32(step, 1);
-    if next < draft::word_at(file, 0) / draft::UPPER {
+    if next < draft::steps(file) {
         return next;
     }
     0

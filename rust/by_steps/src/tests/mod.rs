@@ -4,6 +4,7 @@
 mod classes;
 mod command;
 mod finish;
+mod overruns;
 mod plain;
 mod recordings;
 mod refusals;

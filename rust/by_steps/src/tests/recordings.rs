@@ -55,8 +55,13 @@ pub fn file(steps: &[(u16, u8)]) -> Vec<u8> {
 /// Judges with just enough lent, and sees to it that all places after the bytes
 /// handed over "keep what they held".
 pub fn judged(judge: Judge, steps: &[(u16, u8)]) -> Judged {
+    judged_file(judge, &file(steps))
+}
+
+/// The same for a file.
+pub fn judged_file(judge: Judge, file: &[u8]) -> Judged {
     let (mut bytes, mut ledger) = (vec![KEPT_BYTE; 1000], vec![KEPT_TICK; 2000]);
-    let answer = judge(&file(steps), &mut bytes, &mut ledger);
+    let answer = judge(file, &mut bytes, &mut ledger);
     let count = answer.count as usize;
     assert!(bytes.drain(count..).all(|byte| byte == KEPT_BYTE));
     assert!(ledger.drain(2 * count..).all(|tick| tick == KEPT_TICK));

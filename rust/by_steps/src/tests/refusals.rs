@@ -34,7 +34,36 @@ fn both_entries_refuse_alike() {
     assert_both(&with_byte(12, 25), 1000, 5, 0);
     assert_both(&with_byte(20, 0), 1000, 6, 1);
     assert_both(&with_byte(22, 0x15), 1000, 7, 1);
-    assert_both(&with_byte(23, 1), 1000, 7, 1);
+    assert_both(&with_byte(23, 2), 1000, 7, 1);
     assert_both(&with_byte(8, 210), 1000, 8, 0);
     assert_both(&with_byte(0, 1), 999, 9, 0);
+}
+
+/// #103: "Refusal 7 now means other line bits or a last byte above 1."
+#[test]
+fn a_last_byte_above_1_is_refused() {
+    for last in 2..=0xFF {
+        assert_both(&with_byte(19, last), 1000, 7, 0);
+        assert_both(&with_byte(23, last), 1000, 7, 1);
+    }
+}
+
+/// A mark is no refusal and hides none: 6 before 7 in the marked step, then 8
+/// and 9.
+#[test]
+fn a_last_byte_of_1_is_not_refused() {
+    let marked = with_byte(23, 1);
+    for judge in [judge, judge_command] {
+        let (mut bytes, mut ledger) = ([0; 1000], [0; 2000]);
+        assert!(judge(&marked, &mut bytes, &mut ledger).number >= 20);
+    }
+    let also = |place: usize, value: u8| {
+        let mut file = marked.clone();
+        file[place] = value;
+        file
+    };
+    assert_both(&also(20, 0), 1000, 6, 1);
+    assert_both(&also(22, 0x15), 1000, 7, 1);
+    assert_both(&also(8, 210), 1000, 8, 0);
+    assert_both(&marked, 999, 9, 0);
 }

@@ -44,7 +44,7 @@ fn damage_steps(random: &mut Random, case: &mut Case) {
         }
         7 => {
             let (duration, lines) = (random.between(1, 300) as u16, random.below(16) as u8);
-            case.steps.insert(place, Step { duration, lines });
+            case.steps.insert(place, Step::new(duration, lines));
         }
         8 => {
             let tick = case.tick_by_a_change(random);
@@ -99,8 +99,8 @@ fn flip_bit(random: &mut Random, file: &mut [u8]) {
     }
 }
 
-/// No duration, stray line bits or a last byte that is not zero, in some step of the file; or several of these in one step,
-/// for they are tested in order.
+/// No duration, stray line bits or a last byte that is not zero, a mark or none, in some step of the file; or several of these
+/// in one step, for they are tested in order.
 fn damage_a_step(random: &mut Random, file: &mut [u8]) {
     let step = 16 + 4 * random.place((file.len() - 16) / 4);
     let what = random.between(1, 7);

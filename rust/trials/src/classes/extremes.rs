@@ -29,17 +29,14 @@ pub fn draw(random: &mut Random, case: &mut Case) {
 /// Steps until there are `count`.
 fn pad(case: &mut Case, count: usize, duration: u16, lines: u8) {
     case.steps
-        .resize(count.max(case.steps.len()), Step { duration, lines });
+        .resize(count.max(case.steps.len()), Step::new(duration, lines));
 }
 
 /// The beginning of a transfer that waits where there is no limit, over that many steps.
 fn fill_up(random: &mut Random, case: &mut Case, count: usize, duration: u16) {
     let attention = case.entry.attention();
     let lines = attention | random.pick(&[6, 4]);
-    case.steps.push(Step {
-        duration: 1,
-        lines: attention | 6,
-    });
+    case.steps.push(Step::new(1, attention | 6));
     pad(case, count, duration, lines);
 }
 
@@ -70,9 +67,6 @@ fn split_up(random: &mut Random, case: &mut Case) {
 fn longest_steps(random: &mut Random, case: &mut Case) {
     for _ in 0..random.between(1, 40) {
         let lines = case.entry.attention() | random.pick(&[6, 6, 6, 4, 4, 0, 2]);
-        case.steps.push(Step {
-            duration: LONGEST,
-            lines,
-        });
+        case.steps.push(Step::new(LONGEST, lines));
     }
 }

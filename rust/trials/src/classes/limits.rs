@@ -23,7 +23,7 @@ pub fn draw(random: &mut Random, case: &mut Case) {
     match random.below(12) {
         0 => {
             let lines = random.below(8) as u8;
-            case.steps.push(Step { duration: 1, lines });
+            case.steps.push(Step::new(1, lines));
         }
         1..=4 => {
             let tick = case.tick_by_a_change(random);

@@ -71,7 +71,7 @@ fn likely_steps(random: &mut Random, case: &mut Case, count: usize) {
             0 => random.between(1, 300) as u16,
             _ => random.pick(&LIKELY),
         };
-        case.steps.push(Step { duration, lines });
+        case.steps.push(Step::new(duration, lines));
     }
 }
 

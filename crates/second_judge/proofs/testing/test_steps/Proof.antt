@@ -52,7 +52,7 @@ returns-3 c =
             few = start .pre .0;
             whole = start .pre .1;
             counted = start .pre .2;
-            summed = omega (arith, c .before .four-bytes .ensures .0, ap (ticks (now (start .args .file))) all);
+            summed = omega (arith, c .before .four-bytes .ensures, ap (ticks (now (start .args .file))) all);
             lasting = λ k below. loop .inv .3 k (omega arith);
           },
     )
