@@ -17,10 +17,6 @@ plain41 = 200 ∶ 6 ∷ 50 ∶ 4 ∷ 60 ∶ 0 ∷ bits (4 ∷ 0 ∷ 0 ∷ 0 ∷ 
 pub data Reading : Type 0 where
   reads : List Span → (number tick count : ℕ) → Reading
 
--- Ticks lost after some spans: 40 at the next tick, though it shows every line pulled, ATN too.
-abbrev pub losesAfter : List Span → (tick count : ℕ) → Reading
-losesAfter spans tick count = reads (spans ++ (lost (2 ∶ 7) ∷ [])) 40 tick count
-
 abbrev pub readings : List Reading
 readings =
     -- S1 of document 01, and the same without its last step.
@@ -100,26 +96,15 @@ readings =
     ∷ reads (listen 200 ++ (1 ∶ 6 ∷ [])) 23 0 0
     -- A verdict stands: ATN pulled later changes nothing.
     ∷ reads (1 ∶ 0 ∷ 1 ∶ 1 ∷ []) 25 0 0
-    -- Ticks lost in A, at tick 0 and later, in B, C, D, F, G, in a set-up and a valid time, in an open handover and a carried one, in
-    -- B where a byte waits, which is not counted, in C after it, and in E.
-    ∷ losesAfter [] 0 0
-    ∷ losesAfter (9 ∶ 2 ∷ []) 9 0
-    ∷ losesAfter (9 ∶ 6 ∷ []) 9 0
-    ∷ losesAfter (9 ∶ 6 ∷ 1 ∶ 4 ∷ []) 10 0
-    ∷ losesAfter (9 ∶ 6 ∷ 1 ∶ 4 ∷ 9 ∶ 0 ∷ []) 19 0
-    ∷ losesAfter (200 ∶ 6 ∷ 50 ∶ 4 ∷ 220 ∶ 0 ∷ 80 ∶ 4 ∷ []) 550 0
-    ∷ losesAfter (opening 220 80) 590 0
-    ∷ losesAfter (opening 220 80 ++ (70 ∶ 6 ∷ [])) 660 0
-    ∷ losesAfter (opening 220 80 ++ (70 ∶ 6 ∷ 60 ∶ 4 ∷ [])) 720 0
-    ∷ losesAfter (till41 ++ (30 ∶ 2 ∷ [])) 1660 0
-    ∷ losesAfter (till80 ++ (200 ∶ 6 ∷ [])) 1830 0
-    ∷ losesAfter (till41 ++ (30 ∶ 2 ∷ 200 ∶ 6 ∷ [])) 1860 0
-    ∷ losesAfter (till41 ++ (30 ∶ 2 ∷ 200 ∶ 6 ∷ 50 ∶ 4 ∷ [])) 1910 1
-    ∷ losesAfter s1 2010 1
-    -- The lines that the phase waits for, or keeps, change nothing: in B where they would hand the byte over, and in E.
+    -- Ticks lost: before ATN, at tick 0 and in a bit; in B, where the same lines would hand the byte over, which is not counted; in C after
+    -- that; and in E, with its own lines and with ATN.
+    ∷ reads (lost (2 ∶ 1) ∷ []) 40 0 0
+    ∷ reads (opening 220 80 ++ (70 ∶ 6 ∷ lost (60 ∶ 5) ∷ [])) 40 660 0
     ∷ reads (till41 ++ (30 ∶ 2 ∷ 200 ∶ 6 ∷ lost (50 ∶ 4) ∷ [])) 40 1860 0
+    ∷ reads (till41 ++ (30 ∶ 2 ∷ 200 ∶ 6 ∷ 50 ∶ 4 ∷ lost (100 ∶ 0) ∷ [])) 40 1910 1
     ∷ reads (s1 ++ (lost (100 ∶ 0) ∷ [])) 40 2010 1
-    -- An earlier verdict stands.
+    ∷ reads (s1 ++ (lost (100 ∶ 1) ∷ [])) 40 2010 1
+    -- A verdict that fell before them stands.
     ∷ reads (1 ∶ 0 ∷ lost (1 ∶ 0) ∷ []) 25 0 0
     -- No ticks at all.
     ∷ reads [] 22 0 0
@@ -183,7 +168,7 @@ commandReadings =
     ∷ reads (listen 200 ++ (lost (1 ∶ 6) ∷ [])) 40 2960 1
     ∷ reads (carried80 101 ++ (lost (1 ∶ 6) ∷ [])) 40 1451 0
     ∷ reads (listen 200 ++ (1 ∶ 6 ∷ lost (9 ∶ 6) ∷ [])) 40 2961 2
-    ∷ losesAfter (listen 200 ++ (1 ∶ 6 ∷ [])) 2961 2
+    ∷ reads (listen 200 ++ (1 ∶ 6 ∷ lost (9 ∶ 7) ∷ [])) 40 2961 2
     -- A data transfer handed to the command entry, and no ticks at all.
     ∷ reads s1 39 0 0
     ∷ reads [] 22 0 0

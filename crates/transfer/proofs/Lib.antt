@@ -3,6 +3,7 @@
 pub mod Rows
 pub mod Stages
 pub mod DecisionTicks
+pub mod Lost
 pub mod Room
 pub mod HandoverTicks
 pub mod ByteValue

@@ -11,5 +11,6 @@ pub mod Rules
 pub mod Pair
 pub mod Shown
 pub mod Demand3
+pub mod Lost
 pub mod Room
 pub mod Facts

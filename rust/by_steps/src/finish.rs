@@ -8,11 +8,14 @@
 //! leads into B but is still read in the handover, and it comes 0 ticks after
 //! the take besides. The take of a carried handover is the one that document 01
 //! gives it, offset 1, so its finish comes at offset 101 or later.
+//!
+//! The first tick of a marked step is no finish, whatever it shows: #103 gives 40
+//! there "before ATN is looked at". So it doesn't hand the last byte over.
 
 use crate::limits::FINISH_AFTER_TAKE;
-use crate::numbers::{ATTENTION_RELEASED, COMPLETE, MOVED_AFTER_THE_END, OVERRUN};
+use crate::numbers::{ATTENTION_RELEASED, COMPLETE, MOVED_AFTER_THE_END, RECORDER_OVERRUN};
 use crate::reader::{Decision, Reader};
-use crate::step::Lines;
+use crate::step::{Lines, Step};
 
 /// What hands a byte over.
 pub enum HandedOverBy {
@@ -32,7 +35,7 @@ pub fn finish(
     last_take: u32,
 ) -> Result<HandedOverBy, Decision> {
     let released = stopped.number == ATTENTION_RELEASED;
-    let both_hold = reader.lines_at_attention() == Some(Lines::PULLED);
+    let both_hold = reader.lines_at_stop() == Some(Lines::PULLED);
     let too_soon = stopped.tick < last_take + FINISH_AFTER_TAKE;
     if released && both_hold && !too_soon {
         Ok(HandedOverBy::Finish(Decision {
@@ -44,20 +47,30 @@ pub fn finish(
     }
 }
 
-/// "After the finish only a pull of ATN matters: 37." And a mark (#103): 40.
+/// Reads on from the finish; running out gives the finish itself.
 pub fn after_finish(reader: &Reader, finish: Decision) -> Decision {
-    let mut at = finish;
-    for step in reader.steps_from_attention() {
-        if step.attention_pulled() {
-            at.number = MOVED_AFTER_THE_END;
-            return at;
+    let mut tick = finish.tick;
+    for (place, step) in (finish.step..).zip(reader.steps_from_stop()) {
+        if let Some(number) = number_after_finish(step) {
+            return Decision {
+                number,
+                tick,
+                step: place,
+            };
         }
-        at.tick += step.duration();
-        at.step += 1;
-    }
-    if reader.overrun() {
-        at.number = OVERRUN;
-        return at;
+        tick += step.duration();
     }
     finish
+}
+
+/// "After the finish only a pull of ATN matters: 37." Since #103 a mark does too,
+/// and comes first: 40 "before ATN is looked at, also ... after #101's finish".
+fn number_after_finish(step: Step) -> Option<u32> {
+    if step.marked() {
+        Some(RECORDER_OVERRUN)
+    } else if step.attention_pulled() {
+        Some(MOVED_AFTER_THE_END)
+    } else {
+        None
+    }
 }

@@ -9,16 +9,16 @@ use crate::reader::{Decision, Reader};
 use crate::recording::{check, Recording};
 use crate::Answer;
 
-/// Judges the recording of a data transfer by document 01, and its marks by #103
-/// of document 02. The bytes handed over and their ticks are written to `bytes`
-/// and `ledger`; nothing else there changes.
+/// Judges the recording of a data transfer by document 01, and lost ticks in it
+/// by #103 of document 02. The bytes handed over and their ticks are written to
+/// `bytes` and `ledger`; nothing else there changes.
 pub fn judge(file: &[u8], bytes: &mut [u8], ledger: &mut [u32]) -> Answer {
     judge_by(Entry::Plain, file, bytes, ledger)
 }
 
 /// Judges a command recording by #101 of document 02: the same refusals, the
-/// same use of `bytes` and `ledger`, and the new verdicts 38 and 39. Marks are
-/// the same here.
+/// same verdict on lost ticks, the same use of `bytes` and `ledger`, and the new
+/// verdicts 38 and 39.
 pub fn judge_command(file: &[u8], bytes: &mut [u8], ledger: &mut [u32]) -> Answer {
     judge_by(Entry::Command, file, bytes, ledger)
 }

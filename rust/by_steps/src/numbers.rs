@@ -1,5 +1,5 @@
-//! The numbers of "Numbers and what they leave", of request #101 (38 and 39) and
-//! of request #103 (40), each by one name.
+//! The numbers of "Numbers and what they leave" and of the requests #101 (38 and
+//! 39) and #103 (40), each by one name.
 
 /// The writer's number where it refuses nothing.
 pub const WRITTEN: u32 = 0;
@@ -37,4 +37,5 @@ pub const MOVED_AFTER_THE_END: u32 = 37;
 pub const END_MARK_UNDER_ATTENTION: u32 = 38;
 /// #101 gives it no name of its own: "ATN released otherwise".
 pub const ATTENTION_RELEASED: u32 = 39;
-pub const OVERRUN: u32 = 40;
+/// #103 gives it no name of its own either; this one is the request's heading.
+pub const RECORDER_OVERRUN: u32 = 40;

@@ -115,7 +115,7 @@ fn after_acknowledgement(reader: &mut Reader, ready: u32, no_byte: bool) -> Resu
 }
 
 /// E. "The recording running out gives 20 in E", at the finish tick; a tick with
-/// ATN pulled gives 23 here too, and the first tick of a marked step 40.
+/// ATN pulled gives 23 here too, and the first one of a marked step 40.
 pub fn end(reader: &mut Reader) -> Decision {
     let finish = reader.decide(COMPLETE);
     match reader.stay(Lines::RELEASED) {

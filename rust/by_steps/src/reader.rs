@@ -1,7 +1,7 @@
 //! Goes through the steps of a recording, and says where a tick lies in them.
 
 use crate::entry::Entry;
-use crate::numbers::{CUT, OVERRUN};
+use crate::numbers::{CUT, RECORDER_OVERRUN};
 use crate::recording::Recording;
 use crate::step::{Lines, Step, StepBytes};
 
@@ -16,12 +16,10 @@ pub struct Decision {
 
 /// Stands at one step of a recording.
 pub struct Reader<'a> {
-    /// The steps before ATN first moves, and before any mark.
+    /// The steps before the stop: the first step that is marked or moves ATN.
     steps: &'a [StepBytes],
-    /// The steps from there on, before any mark.
-    from_attention: &'a [StepBytes],
-    /// Whether a marked step follows them.
-    overrun: bool,
+    /// The steps from the stop on.
+    from_stop: &'a [StepBytes],
     /// The step's number.
     number: usize,
     step: Step,
@@ -41,17 +39,17 @@ impl<'a> Reader<'a> {
     /// ATN released gives 39 likewise, "tested before the phase's rows".
     ///
     /// #103: "The first tick of a marked step gives verdict 40, before ATN is
-    /// looked at." So with 40 it is the same, but that no step from a mark on is
-    /// read for its ATN either.
+    /// looked at, also in E, at tick 0". So running out gives 40 likewise, also
+    /// where that step moves ATN. The request leaves open whether its tick still
+    /// hands a byte over by entering C: as with 23 no row is read, so it
+    /// doesn't. A mark after the deciding tick changes nothing, since reading
+    /// "stops for good" there.
     pub fn new(recording: &Recording<'a>, entry: Entry) -> Result<Self, Decision> {
-        let (steps, from_attention) = recording.split_at_attention(entry.attention_pulled());
-        let overrun = recording.marked();
-        let run_out = if !from_attention.is_empty() {
-            entry.attention_moved()
-        } else if overrun {
-            OVERRUN
-        } else {
-            CUT
+        let (steps, from_stop) = recording.split_at_stop(entry.attention_pulled());
+        let run_out = match from_stop.first() {
+            None => CUT,
+            Some(&stop) if Step::of(stop).marked() => RECORDER_OVERRUN,
+            Some(_) => entry.attention_moved(),
         };
         let Some(&first) = steps.first() else {
             return Err(Decision {
@@ -63,8 +61,7 @@ impl<'a> Reader<'a> {
         let step = Step::of(first);
         Ok(Reader {
             steps,
-            from_attention,
-            overrun,
+            from_stop,
             number: 0,
             step,
             end_tick: step.duration(),
@@ -136,19 +133,14 @@ impl<'a> Reader<'a> {
         Ok(seen)
     }
 
-    /// The steps from the one on in which ATN first moves, before any mark.
-    pub fn steps_from_attention(&self) -> impl Iterator<Item = Step> + 'a {
-        self.from_attention.iter().copied().map(Step::of)
+    /// The steps from the stop on.
+    pub fn steps_from_stop(&self) -> impl Iterator<Item = Step> + 'a {
+        self.from_stop.iter().copied().map(Step::of)
     }
 
-    /// The lines of the tick in which ATN first moves, if there is one.
-    pub fn lines_at_attention(&self) -> Option<Lines> {
-        self.steps_from_attention().next().map(Step::lines)
-    }
-
-    /// Whether a marked step follows those.
-    pub fn overrun(&self) -> bool {
-        self.overrun
+    /// The lines of the stop's first tick, if there is a stop.
+    pub fn lines_at_stop(&self) -> Option<Lines> {
+        self.steps_from_stop().next().map(Step::lines)
     }
 
     #[inline]

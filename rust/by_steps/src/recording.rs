@@ -27,32 +27,16 @@ impl<'a> Recording<'a> {
         self.steps.iter().copied().map(Step::of)
     }
 
-    /// Whether any step is marked.
-    pub fn marked(&self) -> bool {
-        self.marked
-    }
-
-    /// The steps before the first marked one. The form check has met every step
-    /// already, so a mark is looked for only where there is one.
-    fn before_mark(&self) -> &'a [StepBytes] {
-        if !self.marked {
-            return self.steps;
+    /// The steps before the first that is marked or whose ATN isn't as `pulled`
+    /// says, and those from it on. The form check has met every step already, so
+    /// a first mark or pull is looked for only where there is one.
+    pub(crate) fn split_at_stop(&self, pulled: bool) -> (&'a [StepBytes], &'a [StepBytes]) {
+        if !pulled && !self.attention && !self.marked {
+            return (self.steps, &[]);
         }
-        let before = self.steps().take_while(|step| !step.marked());
-        &self.steps[..before.count()]
-    }
-
-    /// Of the steps before any mark: those before the first whose ATN isn't as
-    /// `pulled` says, and those from it on. A first pull, too, is looked for only
-    /// where there is one.
-    pub(crate) fn split_at_attention(&self, pulled: bool) -> (&'a [StepBytes], &'a [StepBytes]) {
-        let unmarked = self.before_mark();
-        if !pulled && !self.attention {
-            return (unmarked, &[]);
-        }
-        let steps = unmarked.iter().copied().map(Step::of);
-        let before = steps.take_while(|step| step.attention_pulled() == pulled);
-        unmarked.split_at(before.count())
+        let steps = self.steps();
+        let before = steps.take_while(|step| !step.marked() && step.attention_pulled() == pulled);
+        self.steps.split_at(before.count())
     }
 }
 

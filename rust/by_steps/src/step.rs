@@ -15,11 +15,12 @@ pub struct Step(u32);
 impl Step {
     const DURATION: u32 = 0xFFFF;
     const ATTENTION: u32 = 1 << 16;
+    /// #103: "its last byte is 1".
     const MARK: u32 = 1 << 24;
     /// Of the lines byte "the rest 0", and of the last byte all but the mark.
     const NEVER_SET: u32 = 0xFEF0 << 16;
 
-    /// ATN and SRQ released, and no mark.
+    /// ATN and SRQ released, and no mark: only the recorder marks.
     pub(crate) fn new(duration: u16, lines: Lines) -> Self {
         Step(u32::from(duration) | lines.0)
     }
@@ -43,19 +44,18 @@ impl Step {
         self.0 & Self::ATTENTION != 0
     }
 
-    #[inline]
-    pub fn lines(self) -> Lines {
-        Lines(self.0) & Lines::PULLED
-    }
-
-    /// #103: "The recorder now marks a step before which ticks were lost: its
-    /// last byte is 1."
+    /// #103: whether this is "a step before which ticks were lost".
     #[inline]
     pub fn marked(self) -> bool {
         self.0 & Self::MARK != 0
     }
 
-    /// Whether the step has "other line bits or a last byte above 1".
+    #[inline]
+    pub fn lines(self) -> Lines {
+        Lines(self.0) & Lines::PULLED
+    }
+
+    /// Whether the step has "other line bits or a last byte above 1" (#103).
     #[inline]
     pub(crate) fn has_other_bits(self) -> bool {
         self.0 & Self::NEVER_SET != 0

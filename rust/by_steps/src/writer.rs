@@ -23,8 +23,8 @@ const END: u16 = 100;
 /// No bytes: long enough after the acknowledgement for the sender's time-out.
 const NOTHING_TO_SEND: u16 = 300;
 
-/// Writes the recording of `bytes` to the beginning of `destination`. The
-/// refusals are 10, then 11; they change nothing.
+/// Writes the recording of `bytes` to the beginning of `destination`. No step of
+/// it is marked. The refusals are 10, then 11; they change nothing.
 pub fn write(bytes: &[u8], destination: &mut [u8]) -> Answer {
     if bytes.len() > MOST_BYTES {
         return Answer::refusal(TOO_MANY_BYTES, 0);

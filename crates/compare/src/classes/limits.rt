@@ -78,7 +78,7 @@ pub(crate) fn put_base(entry: Entry, file: &mut [u8], place: u32) -> u32 {
 // After the last step comes the first.
 fn step_after(file: &[u8], step: u32) -> u32 {
     let next = std::num::wrapping_add_u32(step, 1);
-    if next < draft::steps(file) {
+    if next < draft::word_at(file, 0) / draft::UPPER {
         return next;
     }
     0

@@ -1,6 +1,7 @@
-// Marked steps: "its last byte is 1". In each recording of the limits the step after the one that lasts so long has its last
-// byte changed: to 1, with its own lines and with ATN turned round, and to 2. And of pairs with all times drawn one step is
-// marked: each must be 40 at that step's first tick.
+// Marked steps: "its last byte is 1". In each recording of the limits the step after the one that lasts so long has another
+// last byte: 1, with its own lines and with ATN turned round and no other line pulled, and 2. And in pairs with all times
+// drawn one step is marked: each must be 40.
+use crate::case::ANY;
 use crate::case::Case;
 use crate::case::Required;
 use crate::classes::limits;
@@ -29,9 +30,9 @@ fn put_marked(entry: Entry, number: u32, file: &mut [u8]) -> Required {
         return Required::NOTHING;
     }
     pairs::drawn(entry, Manner::NEVER, number).put(file);
-    let step = Manner::PLAIN.drawn(number).below(draft::steps(file));
-    draft::set_last(file, step, 1);
-    Required::verdict(40, begin_of(file, step))
+    let steps = draft::word_at(file, 0) / draft::UPPER;
+    draft::set_last(file, Manner::PLAIN.drawn(number).below(steps), 1);
+    Required::verdict(40, ANY)
 }
 
 fn put_at_limit(entry: Entry, place: u32, kind: u32, file: &mut [u8]) {
@@ -41,17 +42,6 @@ fn put_at_limit(entry: Entry, place: u32, kind: u32, file: &mut [u8]) {
     }
     draft::set_last(file, after, 1);
     if kind == 1 {
-        draft::turn_attention(file, after);
+        draft::set_lines(file, after, entry.other().attention());
     }
-}
-
-// The tick at which a step begins.
-fn begin_of(file: &[u8], step: u32) -> u32 {
-    let mut begin: u32 = 0;
-    let mut place: u32 = 0;
-    while place < step {
-        begin = std::num::wrapping_add_u32(begin, draft::duration_at(file, place));
-        place += 1;
-    }
-    begin
 }

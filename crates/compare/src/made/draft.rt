@@ -78,19 +78,12 @@ pub(crate) fn add(file: &mut [u8], duration: u32, lines: u8) {
     raise(file, LENGTH_AT, 4);
 }
 
-// How many steps there are.
-pub(crate) fn steps(file: &[u8]) -> u32 {
-    word_at(file, 0) / UPPER
-}
-
-pub(crate) fn duration_at(file: &[u8], step: u32) -> u32 {
-    word_at(file, 16 + 4 * (step as usize)) % UPPER
-}
-
 // Changes a step's duration, and the total with it.
 pub(crate) fn set_duration(file: &mut [u8], step: u32, duration: u32) {
-    let more = std::num::wrapping_sub_u32(duration, duration_at(file, step));
-    raise(file, 16 + 4 * (step as usize), more);
+    let place = 16 + 4 * (step as usize);
+    let before = word_at(file, place) % UPPER;
+    let more = std::num::wrapping_sub_u32(duration, before);
+    raise(file, place, more);
     raise(file, TOTAL_AT, more);
 }
 
@@ -98,13 +91,7 @@ pub(crate) fn set_lines(file: &mut [u8], step: u32, lines: u8) {
     put_byte(file, 18 + 4 * (step as usize), lines as u32);
 }
 
-// The other value of ATN in a step.
-pub(crate) fn turn_attention(file: &mut [u8], step: u32) {
-    let at = 18 + 4 * (step as usize);
-    put_byte(file, at, word_at(file, at) ^ (ATN as u32));
-}
-
-// Changes a step's last byte, which is 0 and, in a marked step, 1.
+// A step's last byte is 0 and, in a marked step, 1.
 pub(crate) fn set_last(file: &mut [u8], step: u32, last: u32) {
     put_byte(file, 19 + 4 * (step as usize), last);
 }

@@ -5,6 +5,7 @@ mod classes;
 mod command;
 mod finish;
 mod overruns;
+mod overruns_beside_others;
 mod plain;
 mod recordings;
 mod refusals;

@@ -52,13 +52,21 @@ pub fn file(steps: &[(u16, u8)]) -> Vec<u8> {
     file
 }
 
-/// Judges with just enough lent, and sees to it that all places after the bytes
-/// handed over "keep what they held".
+/// The same for steps written as text, where a star stands before each marked one.
+pub fn file_with_marks(text: &str) -> Vec<u8> {
+    let mut file = file(&steps(&text.replace('*', "")));
+    for (number, word) in text.split_whitespace().enumerate() {
+        file[16 + 4 * number + 3] = u8::from(word.starts_with('*'));
+    }
+    file
+}
+
 pub fn judged(judge: Judge, steps: &[(u16, u8)]) -> Judged {
     judged_file(judge, &file(steps))
 }
 
-/// The same for a file.
+/// Judges with just enough lent, and sees to it that all places after the bytes
+/// handed over "keep what they held".
 pub fn judged_file(judge: Judge, file: &[u8]) -> Judged {
     let (mut bytes, mut ledger) = (vec![KEPT_BYTE; 1000], vec![KEPT_TICK; 2000]);
     let answer = judge(file, &mut bytes, &mut ledger);
