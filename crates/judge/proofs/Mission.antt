@@ -1,7 +1,7 @@
 -- What the station stands on. Assumes nothing.
 use Rattle.answer.specs.Basics.{ℕ, zero, suc, _≤_, Bool, true, false, List, [], _++_, length, replicate, _≡_, ltb}
 use mathlib.Core.Bool.{false≢true}
-use mathlib.Core.Path.{refl, sym, ap, ap₂, subst, subst⁻¹, _∙_}
+use mathlib.Core.Path.{refl, sym, ap, subst, subst⁻¹, _∙_}
 use native.Mathlib.Omega.{arith}
 use lib.ListN.{length-map}
 use borrow.Author.Tests.{ltb-true, ltb-false}
@@ -23,7 +23,7 @@ use Rattle.transfer.proofs.{Demand3.commands-consistent, Facts.pair-sends-bytes
 use Rattle.transfer.proofs.Stages.{Told, is-running, is-holding, is-end, is-past, is-decided, told}
 use Rattle.judge.specs.Demand3.{GoodWithRoom}
 use Rattle.judge.specs.Judged.{Judged, leaves, byteRoom, ledgerRoom, shownBy, ticksShown, tickList, lineList, twoTicks}
-use Rattle.judge.specs.Judged.{stepHolding, verdictLeaves, judged}
+use Rattle.judge.specs.Judged.{stepHolding, verdictLeaves}
 use Rattle.judge.specs.Mission.{Holds, AtTheEnd, endOf, given, IsFinished, Mission, MissionLaw, StandardMissionLaw, NeverBothLaw}
 use Rattle.judge.proofs.{HoldingLaws.held-by-step, HoldingLaws.held-at-the-end, LedgerLists.length-values}
 use Rattle.judge.proofs.JudgedLaws.{good-steps, is-refused, few-places, few-ledger-places, is-verdict}

@@ -3,12 +3,12 @@ use Rattle.answer.specs.Basics.{ℕ, Bool, false, _||_, List, [], _∷_, map, _
 use native.Mathlib.Omega.{arith}
 use mathlib.Core.Path.{refl, sym, ap, ap₂, _∙_, subst, subst⁻¹}
 use Rattle.transfer.specs.{Limits.standardLimits, Limits.commandLimits, Outcome.run, Outcome.outcome}
-use Rattle.transfer.specs.Parties.{Pulls, pulls, past, underWay, attention, track}
+use Rattle.transfer.specs.Parties.{Pulls, pulls, past, attention, track}
 use Rattle.transfer.specs.{Shown.shown, Spans.tick, Spans.linesIn, Spans.Unmarked}
 use Rattle.transfer.specs.Pair.{SenderPulls, senderPulls, receiverPulls, attentionTrack, gives, values, SameOrLater}
 use Rattle.transfer.specs.Demand3.{Consistent, CompleteWith, shownSender, shownReceiver, Explains, Explained, OutcomeDemand3}
 use Rattle.transfer.specs.Demand3.{Demand3Law, StandardDemand3, CommandDemand3, CommandsConsistent}
-use Rattle.transfer.specs.Types.{Limits, Lines, Tick, Byte, Start}
+use Rattle.transfer.specs.Types.{Limits, Tick, Byte, Start}
 use Rattle.answer.specs.Types.{Complete}
 use Rattle.transfer.proofs.{Rows.lines, Rows.goingOn, Forward.shows, Forward.CompleteBy, Forward.along, Backward.Planned}
 use Rattle.transfer.proofs.{Backward.back}

@@ -6,15 +6,15 @@ use mathlib.Core.Path.{refl, sym, ap, _∙_, subst}
 use borrow.Author.Needs.{needs}
 use Rattle.transfer.specs.{Types.Entry, Types.Plain, Types.Command, Types.Limits, Types.Tick, Types.Phase, Types.Start}
 use Rattle.transfer.specs.{Limits.standardLimits, Limits.commandLimits, Outcome.onward, Outcome.run, Outcome.outcome}
-use Rattle.transfer.specs.{Demand3.Explains, Spans.tick}
-use Rattle.transfer.specs.{Demand3.CompleteWith, Moves.stage, Moves.finishing, Moves.released, Moves.heed}
+use Rattle.transfer.specs.{Spans.tick}
+use Rattle.transfer.specs.{Demand3.CompleteWith, Moves.finishing, Moves.heed}
 use Rattle.transfer.specs.{Moves.unlessMarked, Moves.move}
-use Rattle.transfer.specs.Spans.{linesIn, _∶_, ticks, s1, listen}
+use Rattle.transfer.specs.Spans.{_∶_, ticks, s1, listen}
 use Rattle.transfer.specs.Phases.{Stop, below, upTo, next, same, withBit, handover, afterBit}
 use Rattle.transfer.specs.Parties.{Bit, Frame, Free, Plan, Sending, more, last, lastCommand, valueOf, sendingBytes, planBytes}
 use Rattle.transfer.specs.Rules.{BitRule, FrameRules, SendingRules, PlanRules}
 use Rattle.transfer.specs.Pair.{senderTrack, receiverTrack, attentionTrack, gives, values}
-use Rattle.transfer.specs.Facts.{AllBytes, SomeBytes, PairSendsBytes, S1Explained, s1Lost, LostThoughExplained, oneTick, frame80}
+use Rattle.transfer.specs.Facts.{AllBytes, SomeBytes, PairSendsBytes, S1Explained, LostThoughExplained, oneTick, frame80}
 use Rattle.transfer.specs.Facts.{Explains80, byte80, TwoPairs, ListenExplained, command80, receiverAfter, senderAfter}
 use Rattle.transfer.specs.Facts.{FreeAfterFinish, NeverBoth}
 use Rattle.answer.specs.Types.{Attention, AttentionReleased, Verdict, Complete, Cut, Broken}
