@@ -6,7 +6,8 @@ use Rattle.recording.specs.{Layout.stepAt, Layout.isMarked, GoodForm.GoodStep, 
 use Rattle.recording.specs.Ticks.{stepsFrom, stepsOf, ticks, NoStepMarked}
 use Rattle.recording.proofs.GoodFormLaws.{each-more}
 use Rattle.transfer.specs.{Types.Lines, Types.Tick, Lines.linesOf}
-use Rattle.transfer.specs.Spans.{tick, Unmarked, spanTicks}
+use Rattle.transfer.specs.Ticks.{tick, Unmarked}
+use Rattle.transfer.specs.Spans.{spanTicks}
 use Rattle.judge.specs.{Judged.tickList, Reading.ticksFrom}
 use Rattle.judge.proofs.TickLists.{span, step-shows}
 

@@ -6,7 +6,7 @@ use lib.Seq.{sets}
 use Rattle.reader.specs.{After.stateAfter, After.handedIn, After.handedOver, States.firstState, States.nextState}
 use Rattle.reader.specs.Idle.{idleTicks, later, Idle, Counted}
 use Rattle.transfer.specs.{Types.Limits, Types.Lines, Types.Tick, Types.Byte, Pair.values, Moves.isDecided, Moves.heldByte}
-use Rattle.transfer.specs.Spans.{tick}
+use Rattle.transfer.specs.Ticks.{tick}
 use Rattle.reader.specs.declared.state.State.{State}
 use Rattle.reader.proofs.IdleLaws.{idle-law}
 use Rattle.reader.proofs.TickLaws.{OneTick, one-tick, counts, marked-decides, stands}

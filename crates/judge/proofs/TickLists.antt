@@ -9,7 +9,8 @@ use Rattle.recording.specs.{Types.Step, Layout.mostSteps, Layout.stepAt, Layout
 use Rattle.recording.specs.Ticks.{stepsFrom, stepTicks, ticks}
 use Rattle.recording.proofs.StepLaws.{ticks-begin, ticks-end, steps-count}
 use Rattle.transfer.specs.{Types.Limits, Types.Lines, Types.Tick, Lines.linesOf, Outcome.Outcome}
-use Rattle.transfer.specs.Spans.{tick, Span, spanTicks, ticks as spanned}
+use Rattle.transfer.specs.Ticks.{tick}
+use Rattle.transfer.specs.Spans.{Span, spanTicks, ticks as spanned}
 use Rattle.reader.specs.{After.handedOver, States.firstState}
 use Rattle.transfer.proofs.Room.{room}
 use Rattle.reader.proofs.Outcomes.{outcome-states}

@@ -3,7 +3,7 @@ use Rattle.answer.specs.Basics.{ℕ, suc, _-_, List, [], _∷_, map, length, lt
 use Rattle.answer.specs.{Types.Answer, Types.ShortBuffers, Answers.refused, Answers._over_, Numbers.verdictNumber}
 use Rattle.recording.specs.{Form.formOf, Ticks.Tick as Recorded, Ticks.stepsOf, Ticks.ticks}
 use Rattle.recording.specs.Types.{Form, Good, Refused, Step}
-use Rattle.transfer.specs.{Lines.linesOf, Outcome.Outcome, Outcome.outcome, Pair.values, Spans.linesIn}
+use Rattle.transfer.specs.{Lines.linesOf, Outcome.Outcome, Outcome.outcome, Pair.values, Ticks.linesIn}
 use Rattle.transfer.specs.Types.{Limits, Lines, Tick, Byte, Decision}
 
 -- What the judge leaves: an answer, and both lent buffers.

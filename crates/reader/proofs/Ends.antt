@@ -3,7 +3,7 @@
 use Rattle.answer.specs.Basics.{ℕ, Bool, true, false, List, [], _∷_, map, _≡_}
 use mathlib.Core.Bool.{false≢true}
 use mathlib.Core.Path.{refl, ap, _∙_, subst}
-use Rattle.transfer.specs.{Moves.isDecided, Moves.heed, Rules.lastOf, Spans.linesIn}
+use Rattle.transfer.specs.{Moves.isDecided, Moves.heed, Rules.lastOf, Ticks.linesIn}
 use Rattle.transfer.specs.Types.{Entry, Plain, Command, Limits, Lines, Tick, Phase, End, Finished}
 use Rattle.transfer.proofs.Rows.{settled}
 use Rattle.reader.specs.{States.nextState, After.stateAfter}

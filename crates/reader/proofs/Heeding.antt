@@ -5,7 +5,7 @@ use mathlib.Core.Path.{refl, sym, ap, _∙_}
 use Rattle.answer.specs.Types.{Attention, Overrun}
 use Rattle.transfer.specs.Phases.{Stop, next}
 use Rattle.transfer.specs.Moves.{stage, released, heed, isDecided}
-use Rattle.transfer.specs.Spans.{tick}
+use Rattle.transfer.specs.Ticks.{tick}
 use Rattle.transfer.specs.Types.{Entry, Plain, Command, Limits, Lines, Tick}
 use Rattle.transfer.proofs.Stages.{undecided-move, marked-move}
 use Rattle.reader.specs.States.{follow, readIn, isUnderWay, turnedIn, nextState}

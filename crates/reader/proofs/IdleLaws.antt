@@ -5,7 +5,7 @@ use mathlib.Core.Bool.{false≢true}
 use mathlib.Core.Path.{refl, sym, ap, subst⁻¹, _∙_}
 use borrow.Author.Tests.{lt-ltb, le-ltb, ltb-true, ltb-false, eq-eqb}
 use Rattle.transfer.specs.Moves.{stage, isDecided, released, heed, move}
-use Rattle.transfer.specs.Spans.{tick}
+use Rattle.transfer.specs.Ticks.{tick}
 use Rattle.transfer.specs.Phases.{below, Move, Go, Hand, Stop, next, same}
 use Rattle.transfer.specs.Types.{Entry, Plain, Command, Limits, Lines, Tick, Phase, Start, FirstHold, Hold, ReadyToSend}
 use Rattle.transfer.specs.Types.{ReadyForData, Acknowledgement, Acknowledged}

@@ -1,7 +1,7 @@
 -- Idle ticks: those that only add one to the tick. A row of the table that goes on leads to a phase that the same lines keep, until the
 -- phase's own limit: so the further ticks of a step can be passed over in one move.
 use Rattle.answer.specs.Basics.{ℕ, _+_, _-_, _≤_, false, List, _++_, replicate, _≡_, ltb, if_then_else_}
-use Rattle.transfer.specs.{Moves.isDecided, Spans.tick}
+use Rattle.transfer.specs.{Moves.isDecided, Ticks.tick}
 use Rattle.transfer.specs.Types.{Limits, Lines, Tick, Phase, Start, FirstHold, Hold, ReadyToSend, ReadyForData, Acknowledgement}
 use Rattle.transfer.specs.Types.{Acknowledged, SetUp, Valid, Open, Carried, End, Finished, Decided}
 use Rattle.reader.specs.{States.nextState, After.stateAfter, After.handedOver}

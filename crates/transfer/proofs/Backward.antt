@@ -8,7 +8,7 @@ use borrow.Author.Tests.{ltb-true, ltb-false, leb-true, leb-false}
 use Rattle.transfer.specs.{Rules.PlanRules, Demand3.Consistent}
 use Rattle.transfer.specs.Phases.{below, upTo, Move, Go, Stop, next, same, withBit, handover, afterBit}
 use Rattle.transfer.specs.Moves.{cutAt, Stage, Running, Holding, Ended, Past, Fallen, stage, finishing, released, heed}
-use Rattle.transfer.specs.{Moves.unlessFallen, Moves.unlessMarked, Moves.move, Moves.decisionIn, Spans.tick}
+use Rattle.transfer.specs.{Moves.unlessFallen, Moves.unlessMarked, Moves.move, Moves.decisionIn, Ticks.tick}
 use Rattle.transfer.specs.Outcome.{Outcome, decided, ended, give, onward, run}
 use Rattle.transfer.specs.Parties.{Pulls, underWay, nobody, held, clock, clockHeld, sets, offers, Free, finishTick, freeTick}
 use Rattle.transfer.specs.Parties.{Plan, track}

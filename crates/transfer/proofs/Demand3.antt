@@ -4,7 +4,7 @@ use native.Mathlib.Omega.{arith}
 use mathlib.Core.Path.{refl, sym, ap, ap₂, _∙_, subst, subst⁻¹}
 use Rattle.transfer.specs.{Limits.standardLimits, Limits.commandLimits, Outcome.run, Outcome.outcome}
 use Rattle.transfer.specs.Parties.{Pulls, pulls, past, attention, track}
-use Rattle.transfer.specs.{Shown.shown, Spans.tick, Spans.linesIn, Spans.Unmarked}
+use Rattle.transfer.specs.{Shown.shown, Ticks.tick, Ticks.linesIn, Ticks.Unmarked}
 use Rattle.transfer.specs.Pair.{SenderPulls, senderPulls, receiverPulls, attentionTrack, gives, values, SameOrLater}
 use Rattle.transfer.specs.Demand3.{Consistent, CompleteWith, shownSender, shownReceiver, Explains, Explained, OutcomeDemand3}
 use Rattle.transfer.specs.Demand3.{Demand3Law, StandardDemand3, CommandDemand3, CommandsConsistent}

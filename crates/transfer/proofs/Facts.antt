@@ -6,7 +6,7 @@ use mathlib.Core.Path.{refl, sym, ap, _∙_, subst}
 use borrow.Author.Needs.{needs}
 use Rattle.transfer.specs.{Types.Entry, Types.Plain, Types.Command, Types.Limits, Types.Tick, Types.Phase, Types.Start}
 use Rattle.transfer.specs.{Limits.standardLimits, Limits.commandLimits, Outcome.onward, Outcome.run, Outcome.outcome}
-use Rattle.transfer.specs.{Spans.tick}
+use Rattle.transfer.specs.{Ticks.tick}
 use Rattle.transfer.specs.{Demand3.CompleteWith, Moves.finishing, Moves.heed}
 use Rattle.transfer.specs.{Moves.unlessMarked, Moves.move}
 use Rattle.transfer.specs.Spans.{_∶_, ticks, s1, listen}

@@ -2,7 +2,7 @@
 use Rattle.answer.specs.Basics.{ℕ, zero, suc, _+_, _*_, _≤_, Bool, true, false, List, [], _∷_, _++_, length, replicate, _≡_, firstThen}
 use native.Mathlib.Omega.{arith}
 use mathlib.Core.Path.{ap}
-use Rattle.transfer.specs.{Outcome.onward, Outcome.run, Outcome.outcome, Spans.Span, Spans.tick, Spans.ticks}
+use Rattle.transfer.specs.{Outcome.onward, Outcome.run, Outcome.outcome, Spans.Span, Ticks.tick, Spans.ticks}
 use Rattle.transfer.specs.Room.{Room, RoomLaw}
 use Rattle.transfer.specs.Phases.{Move, Go, Hand, Stop}
 use Rattle.transfer.specs.Types.{Limits, Lines, Tick, Phase, Start}

@@ -9,7 +9,7 @@ use mathlib.Core.Path.{refl, ap}
 use borrow.Author.Tests.{ltb-false, leb-false}
 use Rattle.transfer.specs.Phases.{below, upTo, Move, Go, Hand, Stop, next, same, handover, afterBit}
 use Rattle.transfer.specs.Moves.{Stage, Running, Holding, Ended, Past, Fallen, stage, finishing, released, heed, unlessFallen}
-use Rattle.transfer.specs.{Moves.unlessMarked, Moves.move, Moves.heldByte, Parties.underWay, Spans.tick}
+use Rattle.transfer.specs.{Moves.unlessMarked, Moves.move, Moves.heldByte, Parties.underWay, Ticks.tick}
 use Rattle.transfer.specs.Types.{Entry, Plain, Command, Limits, Lines, Tick, Byte, Phase, Start, FirstHold, Hold, ReadyToSend}
 use Rattle.transfer.specs.Types.{ReadyForData, Acknowledgement}
 use Rattle.transfer.specs.Types.{Acknowledged, SetUp, Valid, Open, Carried, End, Finished, Decided}

@@ -6,7 +6,7 @@ use mathlib.Core.Bool.{true≢false}
 use mathlib.Core.Path.{refl, ap, _∙_, subst, subst⁻¹}
 use borrow.Author.Tests.{lt-ltb, le-ltb}
 use Rattle.transfer.specs.{Types.Limits, Types.Lines, Types.Byte, Rules.FrameRules, Rules.SendingRules, Rules.PlanRules}
-use Rattle.transfer.specs.{Demand3.Consistent, Spans.linesIn}
+use Rattle.transfer.specs.{Demand3.Consistent, Ticks.linesIn}
 use Rattle.transfer.specs.Parties.{Pulls, pulls, past, nobody, held, clock, clockHeld, sets, offers, Bit, Frame, Free, Sending}
 use Rattle.transfer.specs.Parties.{more, last}
 use Rattle.transfer.specs.Parties.{lastCommand, Plan, finishTick, freeTick}

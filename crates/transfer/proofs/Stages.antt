@@ -5,7 +5,7 @@ use mathlib.Core.Path.{refl, sym, ap, _∙_, subst, subst⁻¹}
 use Rattle.answer.specs.Types.{Fault, Attention, Overrun}
 use Rattle.transfer.specs.Phases.{Move, Stop, next}
 use Rattle.transfer.specs.Moves.{Stage, Running, Holding, Ended, Past, Fallen, stage, hasFallen, isDecided, released, heed}
-use Rattle.transfer.specs.{Moves.unlessFallen, Moves.unlessMarked, Moves.move, Parties.underWay, Spans.tick}
+use Rattle.transfer.specs.{Moves.unlessFallen, Moves.unlessMarked, Moves.move, Parties.underWay, Ticks.tick}
 use Rattle.transfer.specs.Types.{Entry, Plain, Command, Limits, Lines, Tick, Byte, Phase, Start, FirstHold, Hold, ReadyToSend}
 use Rattle.transfer.specs.Types.{ReadyForData}
 use Rattle.transfer.specs.Types.{Acknowledgement, Acknowledged, SetUp, Valid, Open, Carried, End, Finished, Decided}

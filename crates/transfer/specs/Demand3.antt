@@ -1,7 +1,7 @@
 -- Demand 3 over tick lists.
 use Rattle.answer.specs.Basics.{ℕ, suc, _+_, _≤_, _<_, Bool, List, map, _≡_, _↔_}
 use Rattle.transfer.specs.{Types.Command, Types.Limits, Types.Lines, Types.Tick, Types.Byte, Limits.standardLimits}
-use Rattle.transfer.specs.{Limits.forCommands, Limits.commandLimits, Outcome.outcome, Shown.shown, Spans.linesIn, Spans.Unmarked}
+use Rattle.transfer.specs.{Limits.forCommands, Limits.commandLimits, Outcome.outcome, Shown.shown, Ticks.linesIn, Ticks.Unmarked}
 use Rattle.transfer.specs.Pair.{SenderPulls, senderPulls, receiverPulls, attentionTrack, gives, values, Pair, SameOrLater}
 use Rattle.answer.specs.Types.{Complete}
 

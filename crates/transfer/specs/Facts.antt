@@ -3,7 +3,8 @@ use Rattle.answer.specs.Basics.{ℕ, suc, _≤_, _<_, Bool, true, false, List, 
 use Rattle.transfer.specs.Types.{Plain, Command, Limits, Lines, Tick, Byte}
 use Rattle.transfer.specs.{Limits.standardLimits, Limits.commandLimits, Outcome.outcome, Moves.brokenAt, Spans.Span}
 use Rattle.transfer.specs.Demand3.{Explains, Explained}
-use Rattle.transfer.specs.Spans.{linesIn, _∶_, lost, ticks, till41, s1, listen}
+use Rattle.transfer.specs.Ticks.{linesIn}
+use Rattle.transfer.specs.Spans.{_∶_, lost, ticks, till41, s1, listen}
 use Rattle.transfer.specs.Parties.{Bit, Frame, Free, Sending, last, lastCommand, Plan, planBytes}
 use Rattle.transfer.specs.Pair.{SenderPulls, Pair, senderTrack, receiverTrack, attentionTrack, gives}
 use Rattle.answer.specs.Types.{Overrun, Complete}

@@ -1,6 +1,7 @@
 -- What one transfer is: the judge's table, the two parties' rules, and what holds of the two.
 pub mod Types
 pub mod Lines
+pub mod Ticks
 pub mod Limits
 pub mod Phases
 pub mod Moves

@@ -1,17 +1,6 @@
 -- Ticks in spans of equal lines, as the steps of a recording show them; document 01's S1 and a command recording written so.
-use Rattle.answer.specs.Basics.{ℕ, _+_, Bool, true, false, List, [], _∷_, _++_, map, firstThen, _≡_}
-use Rattle.transfer.specs.{Types.Lines, Types.Tick, Lines.linesOf}
-
-abbrev pub tick : (marked : Bool) → Lines → Tick
-tick marked lines = record { marked = marked; lines = lines }
-
--- The lines of a tick list, marked or not; and that no tick of it is marked.
-abbrev pub linesIn : List Tick → List Lines
-linesIn w = map (λ (t : Tick). t .lines) w
-
-abbrev pub Unmarked : List Tick → Type 0
-Unmarked [] = Unit {0}
-Unmarked (t ∷ w) = (t .marked ≡ false) × Unmarked w
+use Rattle.answer.specs.Basics.{ℕ, _+_, Bool, true, false, List, [], _∷_, _++_, firstThen}
+use Rattle.transfer.specs.{Types.Lines, Types.Tick, Lines.linesOf, Ticks.tick}
 
 -- So many ticks that show the same lines; `marked`: ticks were lost before the first of them.
 pub record Span : Type 0 where

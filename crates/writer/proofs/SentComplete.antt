@@ -5,7 +5,7 @@ use mathlib.Core.Path.{refl, ap, subst, _∙_}
 use borrow.Author.Needs.{needs}
 use Rattle.recording.specs.{GoodForm.Bytes, Ticks.ticks}
 use Rattle.transfer.specs.{Types.Entry, Types.Limits, Types.Tick, Limits.standardLimits, Moves.move, Moves.brokenAt, Outcome.run}
-use Rattle.transfer.specs.{Outcome.outcome, Spans.linesIn, Spans.Unmarked}
+use Rattle.transfer.specs.{Outcome.outcome, Ticks.linesIn, Ticks.Unmarked}
 use Rattle.transfer.specs.{Parties.track, Parties.planBytes, Pair.senderTrack, Pair.receiverTrack, Pair.attentionTrack, Pair.gives}
 use Rattle.transfer.specs.{Demand3.CompleteWith, Demand3.Explained}
 use Rattle.transfer.specs.Phases.{below, upTo, next, same, withBit, handover, afterBit}

@@ -5,7 +5,7 @@ use native.Mathlib.Omega.{arith}
 use mathlib.Core.List.{map-append, append-nil, append-assoc}
 use mathlib.Core.Path.{refl, sym, ap, ap₂, _∙_}
 use Rattle.recording.specs.{Types.Step, Ticks.ticks}
-use Rattle.transfer.specs.{Types.Tick, Limits.standardLimits, Lines.linesOf, Spans.tick}
+use Rattle.transfer.specs.{Types.Tick, Limits.standardLimits, Lines.linesOf, Ticks.tick}
 use Rattle.transfer.specs.Parties.{Pulls, nobody, held, clock, clockHeld, sets, offers, bitsTrack, frameTrack}
 use Rattle.transfer.specs.Parties.{track}
 use Rattle.transfer.proofs.{Rows.unmarked, Forward.shows as onBus, HandoverTicks.frame-ticks, Plans.handover-is}
