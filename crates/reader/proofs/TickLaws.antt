@@ -5,13 +5,11 @@ use mathlib.Core.Bool.{true≢false}
 use mathlib.Core.Path.{refl, sym, ap, subst, _∙_}
 use borrow.Author.Tests.{eqb-true, eqb-false, eq-eqb}
 use Rattle.transfer.specs.Phases.{Move, Go, Hand, Stop}
-use Rattle.transfer.specs.Moves.{Stage, Running, Holding, Ended, Past, Fallen, stage, hasFallen, isDecided, unlessFallen, unlessMarked}
-use Rattle.transfer.specs.Moves.{heldByte, move}
-use Rattle.answer.specs.Types.{Overrun}
+use Rattle.transfer.specs.Moves.{hasFallen, isDecided, heldByte, move}
 use Rattle.transfer.specs.Types.{Limits, Tick, Byte, Phase}
 use Rattle.reader.specs.{States.follow, States.nextState, After.stateAfter, After.handedIn, After.handedOver}
 use Rattle.transfer.proofs.Rows.{Climbs, stops, goes, hands, climbs}
-use Rattle.transfer.proofs.Stages.{Told, is-running, is-holding, is-end, is-past, is-decided, told}
+use Rattle.transfer.proofs.Stages.{Told, is-running, is-holding, is-end, is-past, is-decided, told, marked-move}
 use Rattle.reader.specs.declared.state.State.{State}
 
 -- A tick that is read moves the state's tick on by one at most, and its count too. A byte that it hands over was taken by then.
@@ -72,22 +70,14 @@ no-change L s l u = by-stage (told (s .phase))
     by-stage (is-past finish r) = absurd (true≢false (sym u ∙ ap isDecided r))
     by-stage (is-decided fault r) = ap (λ (p : Phase). nextState L (in-phase p) l) r ∙ sym (ap in-phase r)
 
--- A marked tick decides, if no verdict stands.
+-- After a marked tick a verdict has fallen: 40, or one that stood.
 pub marked-decides : (L : Limits) (s : State) (t : Tick) → t .marked ≡ true → isDecided (nextState L s t .phase) ≡ true
-unfolding nextState follow move
-marked-decides L s t e = by-mark (t .marked) _ e
+unfolding nextState follow
+marked-decides L s t marked = by-test (isDecided (s .phase)) refl
   where
-    by-stage : (g : Stage) → isDecided (follow s (unlessFallen g (Stop Overrun)) .phase) ≡ true
-    by-stage Running = refl
-    by-stage (Holding byte) = refl
-    by-stage (Ended finish) = refl
-    by-stage (Past finish) = refl
-    by-stage (Fallen fault) = refl
-
-    by-mark : (m : Bool) (does : Move) → m ≡ true
-        → isDecided (follow s (unlessFallen (stage (s .phase)) (unlessMarked m does)) .phase) ≡ true
-    by-mark true does e = by-stage (stage (s .phase))
-    by-mark false does e = absurd (true≢false (sym e))
+    by-test : (fallen : Bool) → isDecided (s .phase) ≡ fallen → isDecided (nextState L s t .phase) ≡ true
+    by-test true u = ap (λ (v : State). isDecided (v .phase)) (no-change L s t u) ∙ u
+    by-test false u = ap (λ (x : Move). isDecided (follow s x .phase)) (marked-move L (s .tick) (s .phase) t u marked)
 
 -- "Stops for good": no tick changes a decided state or hands a byte over, so a loop may leave at the deciding tick.
 pub record Stands (L : Limits) (s : State) (w : List Tick) : Type 0 where
