@@ -15,7 +15,7 @@ use Rattle.transfer.specs.Parties.{Bit, Frame, Free, Plan, Sending, more
 use Rattle.transfer.specs.Rules.{BitRule, FrameRules, SendingRules, PlanRules}
 use Rattle.transfer.specs.Pair.{senderTrack, receiverTrack, attentionTrack, gives, values}
 use Rattle.transfer.specs.Facts.{AllBytes, SomeBytes, PairSendsBytes, S1Explained, LostThoughExplained, oneTick, frame80}
-use Rattle.transfer.specs.Facts.{Explains80, byte80, TwoPairs, ListenExplained, command80, receiverAfter, senderAfter}
+use Rattle.transfer.specs.Facts.{plan80, Explains80, byte80, TwoPairs, ListenExplained, command80, receiverAfter, senderAfter}
 use Rattle.transfer.specs.Facts.{FreeAfterFinish, NeverBoth}
 use Rattle.answer.specs.Types.{Attention, AttentionReleased, Verdict, Complete, Cut, Broken}
 use Rattle.transfer.proofs.{Rows.lines, Demand3.standard-demand3, Demand3.command-demand3}
@@ -93,22 +93,21 @@ explains80 L q p rules string e =
       gives-it = e;
     }
 
+plan80-keeps : (L : Limits) (sending : Sending) → SendingRules L sending → PlanRules L (plan80 sending)
+plan80-keeps L sending rules =
+    record { first-take = search needs; first-release = search needs; first-let-go = search needs; sending = rules }
+
 -- Two pairs for one recording.
 byte80-keeps : (let-go take : ℕ) → let-go ≤ 100 → 1 ≤ take → take ≤ 60 → PlanRules standardLimits (byte80 let-go take)
 byte80-keeps let-go take a b c =
-    record {
-      first-take = search needs;
-      first-release = search needs;
-      first-let-go = search needs;
-      sending =
-          record {
-            entry = refl;
-            end-mark = search needs;
-            frame = frame80-keeps standardLimits refl refl refl refl refl refl let-go take 160 a b c (omega arith);
-            let-go = search needs;
-            silent = search needs;
-          };
-    }
+    plan80-keeps standardLimits _
+    (record {
+      entry = refl;
+      end-mark = search needs;
+      frame = frame80-keeps standardLimits refl refl refl refl refl refl let-go take 160 a b c (omega arith);
+      let-go = search needs;
+      silent = search needs;
+    })
 
 pub two-pairs : TwoPairs
 two-pairs =
@@ -130,18 +129,12 @@ listen-explained = command-demand3 (ticks (listen 200 ++ (1 ∶ 6 ∷ 9 ∶ 4 �
 -- Both tracks are free after the finish.
 command80-keeps : (after : Free) → PlanRules commandLimits (command80 after)
 command80-keeps after =
-    record {
-      first-take = search needs;
-      first-release = search needs;
-      first-let-go = search needs;
-      sending =
-          record {
-            entry = refl;
-            plain = search needs;
-            frame =
-                frame80-keeps commandLimits refl refl refl refl refl refl 1 1 101 (omega arith) (omega arith) (omega arith) (omega arith);
-          };
-    }
+    plan80-keeps commandLimits _
+    (record {
+      entry = refl;
+      plain = search needs;
+      frame = frame80-keeps commandLimits refl refl refl refl refl refl 1 1 101 (omega arith) (omega arith) (omega arith) (omega arith);
+    })
 
 pub free-after-finish : FreeAfterFinish
 free-after-finish =
