@@ -1,4 +1,4 @@
-/* judge_file FILE [PROFILE]: judges one recording, by profile 0 if none is given, and prints what bin/judge prints for it. PROFILE is one digit.
+/* judge_file FILE: judges one recording and prints what bin/judge prints for it.
  *
  *     NUMBER TICK STEP COUNT NAME FILE   the answer; 20 complete is a pass, and nothing else is
  *     bytes 41 ..                        where COUNT is above 0: the bytes handed over, in hexadecimal
@@ -50,11 +50,11 @@ static void print_answer(struct station_answer answer, const uint8_t *bytes, con
     printf("\n");
 }
 
-/* Judges the bytes of a file by a profile and prints the answer. Returns the exit status. */
-static int judge(const uint8_t *file, size_t length, uint32_t profile, const char *name) {
+/* Judges the bytes of a file and prints the answer. Returns the exit status. */
+static int judge(const uint8_t *file, size_t length, const char *name) {
     uint8_t bytes[STATION_BYTE_ROOM];
     uint32_t ledger[STATION_LEDGER_ROOM];
-    struct station_answer answer = station_judge(file, length, profile, bytes, STATION_BYTE_ROOM, ledger, STATION_LEDGER_ROOM);
+    struct station_answer answer = station_judge(file, length, bytes, STATION_BYTE_ROOM, ledger, STATION_LEDGER_ROOM);
     print_answer(answer, bytes, ledger, name);
     return answer.number == STATION_COMPLETE ? PASS : NO_PASS;
 }
@@ -80,23 +80,17 @@ static void print_unreadable(const char *name, int reason) {
     printf("\n");
 }
 
-static int is_digit(const char *word) {
-    return word[0] >= '0' && word[0] <= '9' && word[1] == '\0';
-}
-
 int main(int argc, char **argv) {
-    if (argc != 2 && !(argc == 3 && is_digit(argv[2]))) {
-        fprintf(stderr, "usage: judge_file FILE [PROFILE]\n");
+    if (argc != 2) {
+        fprintf(stderr, "usage: judge_file FILE\n");
         return NO_ANSWER;
     }
-    /* whether there is such a profile, the judge says */
-    uint32_t profile = argc == 3 ? (uint32_t)(argv[2][0] - '0') : STATION_PROFILE_STANDARD;
     uint8_t room[FILE_ROOM];
     size_t length = 0;
     int status = NO_ANSWER;
     int reason = read_file(argv[1], room, &length);
     if (reason == 0) {
-        status = judge(room, length, profile, argv[1]);
+        status = judge(room, length, argv[1]);
     } else {
         print_unreadable(argv[1], reason);
     }

@@ -11,7 +11,7 @@
 #include <stdint.h>
 
 /* The version of the whole: header, library, commands and Rust crate. */
-#define STATION_VERSION "0.6.0"
+#define STATION_VERSION "0.5.0"
 
 #ifdef __cplusplus
 extern "C" {
@@ -34,7 +34,7 @@ enum station_number {
     STATION_ACKNOWLEDGEMENT_LONG = 29,      /* it held its answer for more than 150 ticks */
     STATION_LATE_CLOCK = 30,                /* after that answer the sender pulled CLK later than 60 ticks */
     STATION_SENDER_TIME_OUT = 31,           /* the sender did not go on within 512 ticks, after bytes were handed over */
-    STATION_VALID_TIME_SHORT = 32,          /* a bit was valid for fewer ticks than the profile asks, 20 or 60 */
+    STATION_VALID_TIME_SHORT = 32,          /* a bit was valid for fewer than 20 ticks */
     STATION_DATA_MOVED = 33,                /* DATA moved with a bit's CLK release, or while the bit was valid */
     STATION_CLOCK_STALL = 34,               /* a bit's set-up or valid time was longer than 200 ticks */
     STATION_RECEIVER_TIME_OUT = 35,         /* a byte was not taken within 1,000 ticks */
@@ -45,17 +45,16 @@ enum station_number {
     STATION_OVERRUN = 40,                   /* the recorder lost ticks before this step: nothing can be said of the transfer;
                                              * record it again */
 
-    /* refusals of the judges: they are about the file or what else was handed over, not about a drive */
-    STATION_SHORT_FILE = 1,       /* fewer than 16 bytes */
-    STATION_WRONG_VERSION = 2,    /* the version is not 1 */
-    STATION_TOO_MANY_STEPS = 3,   /* more than 16,000 steps */
-    STATION_WRONG_OFFSET = 4,     /* the steps do not begin at 16 */
-    STATION_WRONG_LENGTH = 5,     /* the length, by the header or truly, is not that of its steps */
-    STATION_ZERO_DURATION = 6,    /* a step of no ticks */
-    STATION_STRAY_BITS = 7,       /* a step with line bits beyond the four, or a last byte above 1 */
-    STATION_WRONG_TOTAL = 8,      /* the total is not the sum of the steps */
-    STATION_SHORT_BUFFERS = 9,    /* fewer than STATION_BYTE_ROOM bytes or STATION_LEDGER_ROOM ledger places were lent */
-    STATION_NO_SUCH_PROFILE = 12, /* the profile is none of station_profile's */
+    /* refusals of the judges: they are about the file or the memory lent, not about a drive */
+    STATION_SHORT_FILE = 1,     /* fewer than 16 bytes */
+    STATION_WRONG_VERSION = 2,  /* the version is not 1 */
+    STATION_TOO_MANY_STEPS = 3, /* more than 16,000 steps */
+    STATION_WRONG_OFFSET = 4,   /* the steps do not begin at 16 */
+    STATION_WRONG_LENGTH = 5,   /* the length, by the header or truly, is not that of its steps */
+    STATION_ZERO_DURATION = 6,  /* a step of no ticks */
+    STATION_STRAY_BITS = 7,     /* a step with line bits beyond the four, or a last byte above 1 */
+    STATION_WRONG_TOTAL = 8,    /* the total is not the sum of the steps */
+    STATION_SHORT_BUFFERS = 9,  /* fewer than STATION_BYTE_ROOM bytes or STATION_LEDGER_ROOM ledger places were lent */
 
     /* the writer's answers; none of them says anything about a transfer */
     STATION_WRITTEN = 0,            /* the recording was written */
@@ -67,13 +66,6 @@ enum station_number {
     STATION_VACANT_SEAT = 14,    /* posting to or removing from a vacant seat */
     STATION_SEAT_IN_USE = 15,    /* loading a seat in use */
     STATION_NOT_FORTY_SEATS = 16 /* the tray is not forty seats long */
-};
-
-/* The profiles, by which the judges are asked: for how many ticks a bit must be valid. Whatever passes by 1 passes by 0 too, with the same bytes
- * and ledger. */
-enum station_profile {
-    STATION_PROFILE_STANDARD = 0,  /* 20 or more */
-    STATION_PROFILE_VIDEO_CHIP = 1 /* 60 or more: the receiver is a computer with a video chip, which halts its processor at times */
 };
 
 /* The room that the judge must be lent: places of the byte buffer and of the ledger. */
@@ -109,9 +101,6 @@ struct station_answer {
 
 /* Judges one data transfer: ATN is released throughout.
  *
- * The profile is one of station_profile. Any other number is refused, as 12; but C itself cuts a number that is wider than 32 bits before the call,
- * so a caller who has one must look at it first.
- *
  * Lent by the caller:
  * - recording: recording_length bytes, any. They are only read. A file that is longer than STATION_LONGEST_RECORDING is always refused.
  *   Not all of it need be handed over: STATION_LONGEST_RECORDING + 1 bytes or more of its beginning are answered as the whole file is.
@@ -126,21 +115,21 @@ struct station_answer {
  *   recording's total ticks and its number of steps. bytes begins with the count bytes; ledger begins with two ticks for each: when the
  *   sender let go of DATA and when the receiver took it. All further places keep what they held.
  * - A refusal of the judge: tick and count are 0; step is the offending one for 6 and 7 and otherwise 0. No place of bytes or ledger changes.
- *   The first that is due is given, in this order: 1, 2, 3, 4, 5; the steps first to last, 6 before 7 in each; 8; 12; 9. A verdict is given
- *   only where none is due.
+ *   The first that is due is given, in this order: 1, 2, 3, 4, 5; the steps first to last, 6 before 7 in each; 8; 9. A verdict is given only
+ *   where none is due.
  */
-struct station_answer station_judge(const uint8_t *recording, size_t recording_length, uint32_t profile, uint8_t *bytes,
-                                    size_t bytes_length, uint32_t *ledger, size_t ledger_length);
+struct station_answer station_judge(const uint8_t *recording, size_t recording_length, uint8_t *bytes, size_t bytes_length,
+                                    uint32_t *ledger, size_t ledger_length);
 
 /* Judges one command transfer: bytes that are sent while ATN is pulled, from the recording's first tick until the commands are finished,
  * and that say who is to listen or to talk. The finish is the first tick with ATN released.
  *
- * The profile, what is lent and what comes back are as for station_judge, refusals and their order too, and ONLY 20 IS A PASS. No recording passes
- * both: one of a data transfer gets STATION_ATTENTION_RELEASED here, and one of a command transfer STATION_ATTENTION there. An end mark has no
- * place among commands (STATION_END_MARK_UNDER_ATTENTION). station_command_class says what a byte means that was handed over.
+ * What is lent and what comes back is as for station_judge, refusals and their order too, and ONLY 20 IS A PASS. No recording passes both: one of
+ * a data transfer gets STATION_ATTENTION_RELEASED here, and one of a command transfer STATION_ATTENTION there. An end mark has no place among
+ * commands (STATION_END_MARK_UNDER_ATTENTION). station_command_class says what a byte means that was handed over.
  */
-struct station_answer station_judge_command(const uint8_t *recording, size_t recording_length, uint32_t profile, uint8_t *bytes,
-                                            size_t bytes_length, uint32_t *ledger, size_t ledger_length);
+struct station_answer station_judge_command(const uint8_t *recording, size_t recording_length, uint8_t *bytes, size_t bytes_length,
+                                            uint32_t *ledger, size_t ledger_length);
 
 /* What a command byte means. Every byte has one class; no verdict depends on it. */
 enum station_class {

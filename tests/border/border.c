@@ -17,28 +17,12 @@ static const uint32_t ledger_due[2 * COUNT] = {1350, 1380, 2730, 2760, 4390, 442
 /* The same of the commands that as_commands makes of them. */
 static const uint32_t command_ledger_due[2 * COUNT] = {1350, 1380, 2730, 2760, 4110, 4140};
 
-/* A judge of the library, the profile that it is asked by, and what its ledger is to begin with. */
+/* A judge of the library, and what its ledger is to begin with. */
 struct judge {
-    struct station_answer (*judge)(const uint8_t *, size_t, uint32_t, uint8_t *, size_t, uint32_t *, size_t);
-    uint32_t profile;
+    struct station_answer (*judge)(const uint8_t *, size_t, uint8_t *, size_t, uint32_t *, size_t);
     const uint32_t *ledger_due;
 };
-static const struct judge of_data = {station_judge, STATION_PROFILE_STANDARD, ledger_due};
-static const struct judge of_commands = {station_judge_command, STATION_PROFILE_STANDARD, command_ledger_due};
-
-/* The same judge, asked by another profile. */
-static struct judge by_profile(struct judge by, uint32_t profile) {
-    by.profile = profile;
-    return by;
-}
-
-/* Each profile, and the fewest ticks that a bit must be valid by it. */
-enum { PROFILES = 2 };
-static const uint8_t valid_least[PROFILES] = {[STATION_PROFILE_STANDARD] = 20, [STATION_PROFILE_VIDEO_CHIP] = 60};
-
-/* Numbers that are no profile, among them those whose low byte, or low half, is one. */
-static const uint32_t no_profiles[] = {2,       3,       12,        20,        255,        256,        257,
-                                       0x10000, 0x10001, 0x1000000, 0x1000001, 0x80000000, 0x80000001, UINT32_MAX};
+static const struct judge of_data = {station_judge, ledger_due}, of_commands = {station_judge_command, command_ledger_due};
 
 static int failed;
 
@@ -83,7 +67,7 @@ static void judges(const char *what, struct judge by, const uint8_t *recording, 
         struct lent bytes = lend(byte_room, filling);
         struct lent ledger = lend(ledger_room * sizeof(uint32_t), filling);
         uint32_t *ticks = (uint32_t *)(void *)ledger.places;
-        is_answer(what, due, by.judge(file.bytes, LENGTH, by.profile, bytes.places, byte_room, ticks, ledger_room));
+        is_answer(what, due, by.judge(file.bytes, LENGTH, bytes.places, byte_room, ticks, ledger_room));
         holds(what, "bytes", memcmp(bytes.places, string, due.count) == 0);
         holds(what, "ledger", memcmp(ticks, by.ledger_due, ticks_length) == 0);
         holds(what, "further bytes are kept", is_kept_from(bytes, due.count));
@@ -115,59 +99,9 @@ static void try_rooms(struct judge by, const uint8_t *recording, struct station_
     judges("a ledger place too few", by, recording, STATION_BYTE_ROOM, STATION_LEDGER_ROOM - 1, short_buffers);
 }
 
-/* The last bit of the string, set up and valid for 130 ticks together, is valid for so many of them: no other change of a line moves. */
-static void make_valid_for(uint8_t *recording, uint8_t ticks) {
-    recording[16 + 4 * (STEPS - 6)] = 130 - ticks;
-    recording[16 + 4 * (STEPS - 5)] = ticks;
-}
-
-/* That bit about the limit of each profile, by both of them: too short a valid time shows where CLK is pulled after it. */
-static void try_valid_times(struct judge by, const uint8_t *recording, struct station_answer pass) {
-    static const uint8_t valid_times[] = {19, 20, 21, 59, 60, 61};
-    struct station_answer too_short = answer(STATION_VALID_TIME_SHORT, by.ledger_due[2 * COUNT - 2], STEPS - 4, COUNT - 1);
-    uint8_t changed[LENGTH];
-    memcpy(changed, recording, LENGTH);
-    for (uint32_t profile = 0; profile < PROFILES; profile++) {
-        for (size_t place = 0; place < sizeof valid_times; place++) {
-            uint8_t ticks = valid_times[place];
-            char what[64];
-            snprintf(what, sizeof what, "valid for %u ticks, by profile %" PRIu32, (unsigned)ticks, profile);
-            make_valid_for(changed, ticks);
-            judges(what, by_profile(by, profile), changed, STATION_BYTE_ROOM, STATION_LEDGER_ROOM,
-                   ticks < valid_least[profile] ? too_short : pass);
-        }
-    }
-}
-
-/* A number that is no profile is refused before memory that is too short, and after a wrong total. */
-static void try_no_profile(struct judge by, const uint8_t *recording) {
-    struct station_answer refused = answer(STATION_NO_SUCH_PROFILE, 0, 0, 0);
-    uint8_t wrong_total[LENGTH];
-    memcpy(wrong_total, recording, LENGTH);
-    wrong_total[8] ^= 1;
-    for (size_t place = 0; place < sizeof no_profiles / sizeof *no_profiles; place++) {
-        struct judge by_none = by_profile(by, no_profiles[place]);
-        char what[64];
-        snprintf(what, sizeof what, "by profile %" PRIu32, by_none.profile);
-        judges(what, by_none, recording, STATION_BYTE_ROOM, STATION_LEDGER_ROOM, refused);
-        judges(what, by_none, recording, STATION_BYTE_ROOM - 1, STATION_LEDGER_ROOM, refused);
-        judges(what, by_none, recording, STATION_BYTE_ROOM, STATION_LEDGER_ROOM - 1, refused);
-        judges(what, by_none, wrong_total, STATION_BYTE_ROOM, STATION_LEDGER_ROOM, answer(STATION_WRONG_TOTAL, 0, 0, 0));
-    }
-}
-
-/* What holds of both judges, each with a recording that passes by every profile. */
-static void try_either(struct judge by, const uint8_t *recording, struct station_answer pass) {
-    for (uint32_t profile = 0; profile < PROFILES; profile++) {
-        try_rooms(by_profile(by, profile), recording, pass);
-    }
-    try_valid_times(by, recording, pass);
-    try_no_profile(by, recording);
-}
-
 static void try_judge(const uint8_t *recording) {
     uint8_t changed[LENGTH];
-    try_either(of_data, recording, answer(STATION_COMPLETE, 4670, STEPS - 1, COUNT));
+    try_rooms(of_data, recording, answer(STATION_COMPLETE, 4670, STEPS - 1, COUNT));
     memcpy(changed, recording, LENGTH);
     changed[LENGTH - 2] = 4;
     judges("DATA held at the end", of_data, changed, STATION_BYTE_ROOM, STATION_LEDGER_ROOM, answer(STATION_CUT, 4770, STEPS, COUNT));
@@ -202,7 +136,7 @@ static void try_judge_command(const uint8_t *recording) {
     uint8_t commands[LENGTH];
     memcpy(commands, recording, LENGTH);
     as_commands(commands, COUNT);
-    try_either(of_commands, commands, answer(STATION_COMPLETE, 4340, STEPS - 2, COUNT));
+    try_rooms(of_commands, commands, answer(STATION_COMPLETE, 4340, STEPS - 2, COUNT));
     judges("commands as data", of_data, commands, STATION_BYTE_ROOM, STATION_LEDGER_ROOM, answer(STATION_ATTENTION, 0, 0, 0));
     judges("data as commands", of_commands, recording, STATION_BYTE_ROOM, STATION_LEDGER_ROOM, answer(STATION_ATTENTION_RELEASED, 0, 0, 0));
     commands[16 + 4 * (STEPS - 2) + 3] = 1;
@@ -226,10 +160,9 @@ static void try_writer(void) {
 /* A null with a length of 0. */
 static void try_null(const uint8_t *recording) {
     uint8_t none[STATION_WRITTEN_LENGTH(0)];
-    is_answer("nothing to judge", answer(STATION_SHORT_FILE, 0, 0, 0), station_judge(NULL, 0, 0, NULL, 0, NULL, 0));
-    is_answer("no commands to judge", answer(STATION_SHORT_FILE, 0, 0, 0), station_judge_command(NULL, 0, 0, NULL, 0, NULL, 0));
-    is_answer("no buffers", answer(STATION_SHORT_BUFFERS, 0, 0, 0), station_judge(recording, LENGTH, 0, NULL, 0, NULL, 0));
-    is_answer("no profile and no buffers", answer(STATION_NO_SUCH_PROFILE, 0, 0, 0), station_judge(recording, LENGTH, 2, NULL, 0, NULL, 0));
+    is_answer("nothing to judge", answer(STATION_SHORT_FILE, 0, 0, 0), station_judge(NULL, 0, NULL, 0, NULL, 0));
+    is_answer("no commands to judge", answer(STATION_SHORT_FILE, 0, 0, 0), station_judge_command(NULL, 0, NULL, 0, NULL, 0));
+    is_answer("no buffers", answer(STATION_SHORT_BUFFERS, 0, 0, 0), station_judge(recording, LENGTH, NULL, 0, NULL, 0));
     is_answer("nothing to write", answer(STATION_WRITTEN, 0, 0, sizeof none), station_write(NULL, 0, none, sizeof none));
     is_answer("nowhere to write", answer(STATION_SHORT_DESTINATION, 0, 0, 0), station_write(NULL, 0, NULL, 0));
 }
@@ -238,7 +171,7 @@ static void try_null(const uint8_t *recording) {
 static void try_long_file(const uint8_t *recording) {
     size_t zeros = (size_t)1 << 32;
     struct shut file = shut(recording, LENGTH, zeros);
-    struct station_answer got = station_judge(file.bytes, LENGTH + zeros, 0, NULL, 0, NULL, 0);
+    struct station_answer got = station_judge(file.bytes, LENGTH + zeros, NULL, 0, NULL, 0);
     is_answer("a recording and 4 GiB", answer(STATION_WRONG_LENGTH, 0, 0, 0), got);
     open_up(file);
 }
@@ -258,13 +191,12 @@ static void call_write(void) {
 
 static void call_judge(void) {
     size_t length = STATION_WRITTEN_LENGTH(STATION_MOST_BYTES);
-    kept = station_judge(longest, length, STATION_PROFILE_VIDEO_CHIP, longest_bytes, STATION_BYTE_ROOM, longest_ledger, STATION_LEDGER_ROOM);
+    kept = station_judge(longest, length, longest_bytes, STATION_BYTE_ROOM, longest_ledger, STATION_LEDGER_ROOM);
 }
 
 static void call_judge_command(void) {
     size_t length = STATION_WRITTEN_LENGTH(STATION_MOST_BYTES);
-    kept = station_judge_command(longest, length, STATION_PROFILE_VIDEO_CHIP, longest_bytes, STATION_BYTE_ROOM, longest_ledger,
-                                 STATION_LEDGER_ROOM);
+    kept = station_judge_command(longest, length, longest_bytes, STATION_BYTE_ROOM, longest_ledger, STATION_LEDGER_ROOM);
 }
 
 static void call_command_name(void) {

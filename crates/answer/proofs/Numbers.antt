@@ -8,13 +8,13 @@ use Rattle.answer.specs.Types.{WrongTotal, ShortBuffers, TooManyBytes, ShortDest
 use Rattle.answer.specs.Types.{BadStart, OutOfTurn, EndMarkNotAcknowledged, AcknowledgementShort, AcknowledgementLong, LateClock}
 use Rattle.answer.specs.Types.{SenderTimeout, ValidTimeShort, DataMoved, ClockStall, ReceiverTimeout, Hurried, MovedAfterEnd}
 use Rattle.answer.specs.Types.{EndMarkUnderAttention, AttentionReleased, Overrun, Verdict, Complete, Cut, Broken, NoSuchSeat}
-use Rattle.answer.specs.Types.{VacantSeat, SeatInUse, NotFortySeats, NoSuchProfile}
+use Rattle.answer.specs.Types.{VacantSeat, SeatInUse, NotFortySeats}
 
 -- Four kinds of numbers, told by a test that computes: a new number is one line of a list below.
 abbrev refusals : List Refusal
 refusals =
     ShortFile ∷ WrongVersion ∷ TooManySteps ∷ WrongOffset ∷ WrongLength ∷ ZeroDuration ∷ StrayBits ∷ WrongTotal
-    ∷ ShortBuffers ∷ TooManyBytes ∷ ShortDestination ∷ NoSuchProfile ∷ NoSuchSeat ∷ VacantSeat ∷ SeatInUse ∷ NotFortySeats ∷ []
+    ∷ ShortBuffers ∷ TooManyBytes ∷ ShortDestination ∷ NoSuchSeat ∷ VacantSeat ∷ SeatInUse ∷ NotFortySeats ∷ []
 
 abbrev among : ℕ → List Refusal → Bool
 among n [] = false
@@ -66,7 +66,6 @@ refusal_kind WrongTotal = refl
 refusal_kind ShortBuffers = refl
 refusal_kind TooManyBytes = refl
 refusal_kind ShortDestination = refl
-refusal_kind NoSuchProfile = refl
 refusal_kind NoSuchSeat = refl
 refusal_kind VacantSeat = refl
 refusal_kind SeatInUse = refl

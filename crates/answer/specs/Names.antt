@@ -7,7 +7,7 @@ infix 70 ◌is◌
 pub data Word : Type 0 where
   ◌is◌ : ℕ → String → Word
 
--- 0 is the writer's answer where it wrote, 1 to 16 are refusals, 20 to 40 verdicts. A new number is one more line here.
+-- 0 is the writer's answer where it wrote, 1 to 11 and 13 to 16 are refusals, 20 to 40 verdicts. A new number is one more line here.
 abbrev pub words : List Word
 words =
     0 is "written"
@@ -22,7 +22,6 @@ words =
     ∷ 9 is "short-buffers"
     ∷ 10 is "too-many-bytes"
     ∷ 11 is "short-destination"
-    ∷ 12 is "no-such-profile"
     ∷ 13 is "no-such-seat"
     ∷ 14 is "vacant-seat"
     ∷ 15 is "seat-in-use"

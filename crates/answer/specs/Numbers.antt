@@ -5,7 +5,7 @@ use Rattle.answer.specs.Types.{WrongTotal, ShortBuffers, TooManyBytes, ShortDest
 use Rattle.answer.specs.Types.{OutOfTurn, EndMarkNotAcknowledged, AcknowledgementShort, AcknowledgementLong, LateClock, SenderTimeout}
 use Rattle.answer.specs.Types.{ValidTimeShort, DataMoved, ClockStall, ReceiverTimeout, Hurried, MovedAfterEnd, EndMarkUnderAttention}
 use Rattle.answer.specs.Types.{AttentionReleased, Overrun, Verdict, Complete, Cut, Broken, NoSuchSeat, VacantSeat, SeatInUse}
-use Rattle.answer.specs.Types.{NotFortySeats, NoSuchProfile}
+use Rattle.answer.specs.Types.{NotFortySeats}
 
 -- "Refusals"; the definitions that give them say when.
 abbrev pub refusal_number : Refusal → ℕ
@@ -20,8 +20,6 @@ refusal_number WrongTotal = 8  -- "total ticks wrong"
 refusal_number ShortBuffers = 9  -- "byte buffer under 1,000 places, or ledger under 2,000"
 refusal_number TooManyBytes = 10  -- "writer: more than 799 bytes"
 refusal_number ShortDestination = 11  -- "writer: destination under 80n+36 bytes, n the number of bytes given"
--- #104
-refusal_number NoSuchProfile = 12  -- "another number is refused as 12"
 -- #102, of the tray
 refusal_number NoSuchSeat = 13  -- "seat 40 or above"
 refusal_number VacantSeat = 14  -- "posting to or removing from a vacant seat"

@@ -3,7 +3,7 @@ use Rattle.answer.specs.declared
 pub use declared.{Answer.Answer, names.Name.Name, refusal.Refusal.Refusal, verdict.Fault.Fault, verdict.Verdict.Verdict}
 pub use declared.refusal.Refusal.TheVariants.{ShortFile, WrongVersion, TooManySteps, WrongOffset, WrongLength, ZeroDuration, StrayBits}
 pub use declared.refusal.Refusal.TheVariants.{WrongTotal, ShortBuffers, TooManyBytes, ShortDestination, NoSuchSeat, VacantSeat}
-pub use declared.refusal.Refusal.TheVariants.{SeatInUse, NotFortySeats, NoSuchProfile}
+pub use declared.refusal.Refusal.TheVariants.{SeatInUse, NotFortySeats}
 pub use declared.verdict.Verdict.TheVariants.{Complete, Cut, Broken}
 pub use declared.verdict.Fault.TheVariants.{EmptyStream, Attention, NoReceiver, BadStart, OutOfTurn, EndMarkNotAcknowledged}
 pub use declared.verdict.Fault.TheVariants.{AcknowledgementShort, AcknowledgementLong, LateClock, SenderTimeout, ValidTimeShort}

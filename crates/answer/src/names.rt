@@ -34,7 +34,7 @@ const WORDS: [u8; ROWS * Name::WIDTH] = *b"\
     short-buffers            \
     too-many-bytes           \
     short-destination        \
-    no-such-profile          \
+    no-such-number           \
     no-such-seat             \
     vacant-seat              \
     seat-in-use              \

@@ -14,9 +14,8 @@ pub(crate) struct Case {
     // The class's name, and how many cases it has.
     pub class: [u8; 10],
     pub cases: u32,
-    // The entry that it is handed to, and the profile that it is judged by.
+    // The entry that it is handed to.
     pub entry: Entry,
-    pub profile: u32,
     // The recording's true length, and how many places of each buffer are lent.
     pub length: usize,
     pub bytes: usize,
@@ -32,7 +31,6 @@ impl Case {
         class: *b"none      ",
         cases: 0,
         entry: Entry::Plain,
-        profile: 0,
         length: 0,
         bytes: BYTES,
         ledger: LEDGER,

@@ -7,7 +7,6 @@ mod handovers;
 mod limits;
 mod marks;
 mod pairs;
-mod profiles;
 mod refusals;
 mod samples;
 mod strings;
@@ -23,7 +22,7 @@ use crate::output::print_class;
 // data, and then those of commands.
 const WRITTEN: u32 = 3;
 
-const MADE: u32 = 9;
+const MADE: u32 = 8;
 
 const ALL: u32 = WRITTEN + 2 * MADE;
 
@@ -66,9 +65,6 @@ fn put_made(entry: Entry, class: u32, number: u32, file: &mut [u8]) -> Case {
     }
     if class == 6 {
         return marks::put(entry, number, file);
-    }
-    if class == 7 {
-        return profiles::put(entry, number, file);
     }
     crossed::put(entry, number, file)
 }

@@ -1,4 +1,4 @@
-// One recording before both judges, by the entry and the profile of its case: this is the only place where they are called.
+// One recording before both judges, by the entry of its case: this is the only place where they are called.
 ghost use Rattle.answer.specs.Basics.{◌<◌, ◌≤◌};
 
 use crate::case::{BYTES, Case, LEDGER};
@@ -83,9 +83,10 @@ fn judge_by_both(file: &[u8], case: Case) -> Outcome {
     let mut other_ledger = ledger;
     let places = at_most(case.bytes, BYTES);
     let ticks = at_most(case.ledger, LEDGER);
-    let first = judge_first(case, file, &mut bytes[0..places], &mut ledger[0..ticks]);
+    let entry = case.entry;
+    let first = judge_first(entry, file, &mut bytes[0..places], &mut ledger[0..ticks]);
     let second = judge_second(
-        case,
+        entry,
         file,
         &mut other_bytes[0..places],
         &mut other_ledger[0..ticks],
@@ -101,11 +102,10 @@ fn judge_by_both(file: &[u8], case: Case) -> Outcome {
     }
 }
 
-fn judge_first(case: Case, file: &[u8], bytes: &mut [u8], ledger: &mut [u32]) -> Finding {
-    let entry = case.entry;
+fn judge_first(entry: Entry, file: &[u8], bytes: &mut [u8], ledger: &mut [u32]) -> Finding {
     match entry {
-        Entry::Plain => finding(judge::judge(file, case.profile, bytes, ledger)),
-        Entry::Command => finding(judge::judge_command(file, case.profile, bytes, ledger)),
+        Entry::Plain => finding(judge::judge(file, bytes, ledger)),
+        Entry::Command => finding(judge::judge_command(file, bytes, ledger)),
     }
 }
 
@@ -118,11 +118,10 @@ fn finding(answer: Answer) -> Finding {
     }
 }
 
-fn judge_second(case: Case, file: &[u8], bytes: &mut [u8], ledger: &mut [u32]) -> Finding {
-    let entry = case.entry;
+fn judge_second(entry: Entry, file: &[u8], bytes: &mut [u8], ledger: &mut [u32]) -> Finding {
     match entry {
-        Entry::Plain => second_judge::judge_by_steps(file, case.profile, bytes, ledger),
-        Entry::Command => second_judge::judge_command_by_steps(file, case.profile, bytes, ledger),
+        Entry::Plain => second_judge::judge_by_steps(file, bytes, ledger),
+        Entry::Command => second_judge::judge_command_by_steps(file, bytes, ledger),
     }
 }
 

@@ -98,8 +98,8 @@ pub(crate) fn print_difference(file: &[u8], number: u32, case: Case, outcome: Ou
     print_finding(b"  second judge", outcome.second);
     let place = (outcome.place % 65_536) as u32;
     print_line(
-        b"  profile, buffers alike below, required number, tick and count",
-        &[case.profile, place, it.number, it.tick, it.count],
+        b"  buffers alike below, required number, tick and count",
+        &[place, it.number, it.tick, it.count],
     );
     print_words(draft::part(file, MOST_SHOWN));
 }
@@ -116,9 +116,9 @@ fn print_words(file: &[u8]) {
 }
 
 // Every number that a judge may give.
-const NUMBERS: [u8; 31] = [
-    1, 2, 3, 4, 5, 6, 7, 8, 9, 12, 20, 21, 22, 23, 24, 25, 26, 27, 28, 29, 30, 31, 32, 33, 34, 35,
-    36, 37, 38, 39, 40,
+const NUMBERS: [u8; 30] = [
+    1, 2, 3, 4, 5, 6, 7, 8, 9, 20, 21, 22, 23, 24, 25, 26, 27, 28, 29, 30, 31, 32, 33, 34, 35, 36,
+    37, 38, 39, 40,
 ];
 
 // How many recordings of data and of commands had each number, how many numbers none had, and the differences.

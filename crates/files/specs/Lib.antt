@@ -1,3 +1,2 @@
--- What the programs' text keeps to, and the numbers in their arguments.
+-- What the programs' text keeps to.
 pub mod Printable
-pub mod Numbers

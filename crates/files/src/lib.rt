@@ -1,14 +1,12 @@
-// What the programs share: the bytes of a file or of standard input, bytes put down in a file, numbers in arguments, and answers as text.
+// What the programs share: the bytes of a file or of standard input, bytes put down in a file, and answers as text.
 mod answers;
 mod input;
-mod numbers;
 mod paths;
 mod saving;
 mod source;
 
 pub use crate::answers::{print_answer, print_failure, print_name, print_word};
 pub use crate::input::{Input, read_input};
-pub use crate::numbers::{is_number, number_up_to};
 pub use crate::paths::hide_controls;
 pub use crate::saving::save;
 pub use crate::source::{Source, read_source};

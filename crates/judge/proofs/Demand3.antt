@@ -3,16 +3,17 @@ use Rattle.answer.specs.Basics.{ℕ, List, length, take, ◌≡◌}
 use mathlib.Core.Path.{sym, ap, subst, subst⁻¹, ◌∙◌}
 use lib.Seq.{take-append_seam}
 use Rattle.recording.specs.{Types.Step, GoodForm.GoodForm, Ticks.steps_of}
-use Rattle.transfer.specs.{Types.Entry, Types.Limits, Types.Chosen, Types.Lines, Types.Tick, Types.Byte, Profiles.limits_of}
+use Rattle.recording.proofs.GoodFormLaws.{good_form}
+use Rattle.transfer.specs.{Types.Limits, Types.Lines, Types.Tick, Types.Byte, Limits.standard_limits, Limits.command_limits}
 use Rattle.transfer.specs.{Outcome.outcome, Pair.values, Pair.SameOrLater}
 use Rattle.transfer.specs.Demand3.{Consistent, shown_sender, shown_receiver, Explains, Explained, CompleteWith as CompleteTicks}
 use Rattle.answer.specs.Numbers.{verdict_number}
-use Rattle.transfer.proofs.{Demand3.demand3, Profiles.profile_consistent}
+use Rattle.transfer.proofs.Demand3.{demand3, standard_consistent, commands_consistent}
 use Rattle.answer.proofs.Numbers.{only_complete_is_20}
 use Rattle.judge.specs.Promise.{JudgePromise}
 use Rattle.judge.specs.Judged.{Judged, tick_list, line_list, verdict_leaves, judged}
 use Rattle.judge.specs.Demand3.{GoodWithRoom, CompleteWith, dated, FileDemand3}
-use Rattle.judge.proofs.{JudgedLaws.good_verdict, MarkLaws.no_mark, LedgerLists.length-values, LedgerLists.reads_ledger}
+use Rattle.judge.proofs.{JudgedLaws.is_verdict, MarkLaws.no_mark, LedgerLists.length-values, LedgerLists.reads_ledger}
 
 -- What is left at a verdict is complete with a string exactly if the tick list is.
 module _ (L : Limits) (w : List Tick) (steps : List Step) (b g : List ℕ) where
@@ -75,19 +76,25 @@ module _ (L : Limits) (times : Consistent L) (file b g : List ℕ) where
         never = λ none e. ticks.never (λ string x u. none string x (marks.1 u)) (only_complete_is_20 _ e);
       }
 
-pub file_demand3 : (chosen : Chosen) (file b g : List ℕ) (good : GoodWithRoom chosen file b g) → Consistent good.limits
-    → FileDemand3 good.limits file (judged chosen file b g)
-file_demand3 chosen file b g good times =
-    subst⁻¹ (FileDemand3 good.limits file) (good_verdict chosen file b g good)
-    (at_verdict good.limits times file b g good.steps good.good_form)
+  pub file_demand3 : GoodWithRoom file b g → FileDemand3 L file (judged L file b g)
+  file_demand3 good =
+      subst⁻¹ (FileDemand3 L file)
+      (is_verdict L file b g good.steps ((good_form file good.steps).1 good.good_form) good.byte_room_lent good.ledger_room_lent)
+      (at_verdict good.steps good.good_form)
 
--- The promise of an entry, from its first clause, by what its call chose.
-pub promised : (entry : Entry) (profile : ℕ) (file b g : List ℕ) (j : Judged) (chosen : Chosen) → chosen ≡ limits_of entry profile
-    → j ≡ judged chosen file b g → JudgePromise (limits_of entry profile) file b g j
-promised entry profile file b g j chosen e h =
-    let given : j ≡ judged (limits_of entry profile) file b g = h ∙ ap (λ (c : Chosen). judged c file b g) e in
-    record {
-      given = given;
-      explained = λ good. subst⁻¹ (FileDemand3 good.limits file) given
-          (file_demand3 (limits_of entry profile) file b g good (profile_consistent entry profile good.limits good.known));
-    }
+-- The promise, from its first clause, for all times that are consistent; and for each entry, from the limits that its call made.
+promise : (L : Limits) → Consistent L → (file b g : List ℕ) (j : Judged) → j ≡ judged L file b g → JudgePromise L file b g j
+promise L times file b g j e =
+    record { given = e; explained = λ good. subst⁻¹ (FileDemand3 L file) e (file_demand3 L times file b g good) }
+
+made : (L : Limits) → Consistent L → (file b g : List ℕ) (j : Judged) (K : Limits) → K ≡ L → j ≡ judged K file b g
+    → JudgePromise L file b g j
+made L times file b g j K e h = promise L times file b g j (h ∙ ap (λ (M : Limits). judged M file b g) e)
+
+pub standard_promised : (file b g : List ℕ) (j : Judged) (K : Limits) → K ≡ standard_limits → j ≡ judged K file b g
+    → JudgePromise standard_limits file b g j
+standard_promised = made standard_limits standard_consistent
+
+pub command_promised : (file b g : List ℕ) (j : Judged) (K : Limits) → K ≡ command_limits → j ≡ judged K file b g
+    → JudgePromise command_limits file b g j
+command_promised = made command_limits (commands_consistent standard_limits standard_consistent)

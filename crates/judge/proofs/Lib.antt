@@ -1,10 +1,9 @@
--- Why it holds. Mission, Demand3 and Wider have the theorems; the rest are the laws by which the functions go.
+-- Why it holds. Mission and Demand3 have the theorems; the rest are the laws by which the functions go.
 pub mod Tests
 pub mod LedgerLists
 pub mod JudgedLaws
 pub mod Demand3
 pub mod Mission
-pub mod Wider
 pub mod LongFiles
 pub mod TickLists
 pub mod MarkLaws

@@ -7,6 +7,6 @@ use Rattle.judge.specs.{Judged.judged, Judged.judged_in_form, LongFiles.LongFile
 
 pub long_file : LongFileLaw
 unfolding judged judged_in_form
-long_file chosen beginning rest bytes ledger long =
+long_file L beginning rest bytes ledger long =
     let alone = ap form_of (sym (append-nil beginning)) ∙ long_form beginning [] long in
     rw (long_form beginning rest long, alone)

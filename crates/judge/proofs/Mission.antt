@@ -6,27 +6,27 @@ use native.Mathlib.Omega.{arith}
 use lib.ListN.{length-map}
 use borrow.Author.Tests.{ltb-true, ltb-false}
 use Rattle.answer.specs.{Answers.refused, Numbers.verdict_number, Numbers.IsVerdict}
-use Rattle.answer.specs.Types.{Refusal, ShortBuffers, NoSuchProfile, Fault, Verdict, Complete, Cut, Broken}
+use Rattle.answer.specs.Types.{Refusal, ShortBuffers, Fault, Verdict, Complete, Cut, Broken}
 use Rattle.recording.specs.{Form.form_of, GoodForm.GoodForm, Layout.header_at}
 use Rattle.recording.specs.Ticks.{steps_from, steps_of, total_ticks, ticks, ticks_of}
 use Rattle.recording.specs.Types.{Form, Good, Refused, Step}
 use Rattle.recording.proofs.{GoodFormLaws.good_form, StepLaws.steps_count, StepLaws.total_counts}
-use Rattle.transfer.specs.{Demand3.Consistent, Profiles.limits_of, Outcome.Outcome}
-use Rattle.transfer.specs.Types.{Entry, Plain, Command, Limits, Chosen, Known, Unknown, Phase, End, Finished}
+use Rattle.transfer.specs.{Demand3.Consistent, Limits.standard_limits, Limits.command_limits, Outcome.Outcome}
+use Rattle.transfer.specs.Types.{Entry, Plain, Command, Limits, Phase, End, Finished}
 use Rattle.transfer.specs.{Outcome.run, Outcome.outcome, Pair.values, Moves.Stage, Moves.Running, Moves.Holding, Moves.stage}
 use Rattle.transfer.specs.{Moves.decision_in, Moves.decision_of, Rules.last_of}
 use Rattle.reader.specs.{States.first_state, After.state_after}
 use Rattle.reader.proofs.{Outcomes.outcome_states, Ends.plain_never_past, Ends.command_end_pulled}
 use Rattle.answer.proofs.Numbers.{only_complete_is_20, only_cut_is_22, verdicts_are_no_refusals}
-use Rattle.transfer.proofs.{DecisionTicks.decision_tick, Demand3.demand3, Profiles.profile_consistent, Profiles.profile_entry}
-use Rattle.transfer.proofs.{Attention.attention_law, Facts.pair_sends_bytes, Facts.never_both}
+use Rattle.transfer.proofs.{DecisionTicks.decision_tick, Demand3.demand3, Demand3.standard_consistent, Attention.attention_law}
+use Rattle.transfer.proofs.{Demand3.commands_consistent, Facts.pair_sends_bytes, Facts.never_both}
 use Rattle.transfer.proofs.Stages.{Told, is_running, is_holding, is_end, is_past_stage, is_decided_stage, told}
 use Rattle.judge.specs.Demand3.{GoodWithRoom}
 use Rattle.judge.specs.Judged.{Judged, leaves, byte_room, ledger_room, shown_by, ticks_shown, tick_list, line_list, two_ticks}
 use Rattle.judge.specs.Judged.{step_holding, verdict_leaves}
-use Rattle.judge.specs.Mission.{Holds, AtTheEnd, end_of, given, IsFinished, Mission, MissionLaw, ProfileMissionLaw, NeverBothLaw}
+use Rattle.judge.specs.Mission.{Holds, AtTheEnd, end_of, given, IsFinished, Mission, MissionLaw, StandardMissionLaw, NeverBothLaw}
 use Rattle.judge.proofs.{HoldingLaws.held_by_step, HoldingLaws.held_at_the_end, LedgerLists.length-values}
-use Rattle.judge.proofs.JudgedLaws.{good_steps, is_refused, no_profile_lem, few_places, few_ledger_places, good_verdict}
+use Rattle.judge.proofs.JudgedLaws.{good_steps, is_refused, few_places, few_ledger_places, is_verdict}
 
 -- The ticks of a recording of good form, as its steps have them and as its header says.
 ticks_of_lem : (file : List ℕ) → length (tick_list file) ≡ total_ticks (steps_of file)
@@ -49,10 +49,40 @@ unbroken fault e = false≢true (ap passes e)
 abbrev ends_in : Phase → Bool
 ends_in p = passes (decision_of p 0).verdict
 
--- A recording that is complete, read by these limits.
-module _ (L : Limits) (file : List ℕ) where
+module _ (L : Limits) (file bytes ledger : List ℕ) where
+  abbrev got : Judged
+  got = given L file bytes ledger
+
   abbrev read : Outcome
   read = outcome L (tick_list file)
+
+  -- What the judge gives is a refusal, which changes nothing, or a verdict.
+  data Kind : Type 0 where
+    refusal : (r : Refusal) (step : ℕ) → got ≡ leaves (refused r step) bytes ledger → Kind
+    verdict : GoodWithRoom file bytes ledger → got ≡ verdict_leaves (steps_of file) read bytes ledger → Kind
+
+  by_form : (form : Form) → form_of file ≡ form → Kind
+  by_form (Refused r step) e = refusal r step (is_refused L file bytes ledger r step e)
+  by_form (Good n) e = by_room (ltb (length bytes) byte_room) (ltb (length ledger) ledger_room) refl refl
+    where
+      by_room : (t u : Bool) → ltb (length bytes) byte_room ≡ t → ltb (length ledger) ledger_room ≡ u → Kind
+      by_room true u et eu = refusal ShortBuffers 0 (few_places L file bytes ledger n e (ltb-true (length bytes) byte_room et))
+      by_room false true et eu =
+          refusal ShortBuffers 0
+          (few_ledger_places L file bytes ledger n e (ltb-false (length bytes) byte_room et) (ltb-true (length ledger) ledger_room eu))
+      by_room false false et eu =
+          let hb = ltb-false (length bytes) byte_room et in
+          let hg = ltb-false (length ledger) ledger_room eu in
+          verdict (record { steps = n; good_form = (good_form file n).0 e; byte_room_lent = hb; ledger_room_lent = hg })
+          (is_verdict L file bytes ledger n e hb hg)
+
+  -- The number of a verdict, and of a refusal.
+  is_number : got ≡ verdict_leaves (steps_of file) read bytes ledger → verdict_number read.decision.verdict ≡ got.answer.number
+  is_number is = ap (λ (j : Judged). j.answer.number) (sym is)
+
+  no_verdict : (r : Refusal) (step : ℕ) → got ≡ leaves (refused r step) bytes ledger → (v : Verdict)
+      → verdict_number v ≡ got.answer.number → ⊥
+  no_verdict r step is v e = verdicts_are_no_refusals v r (e ∙ ap (λ (j : Judged). j.answer.number) is)
 
   -- Where commands are complete, the last tick shows ATN released.
   last_released : (finish later : ℕ) → last_of false (replicate finish true ++ replicate (suc later) false) ≡ false
@@ -97,110 +127,55 @@ module _ (L : Limits) (file : List ℕ) where
       by_stage : Told p → p ≡ end_of L.entry (decision_of p tick).tick
       by_stage = by_entry L.entry refl
 
-  finish_phase : Consistent L → read.decision.verdict ≡ Complete
-      → (state_after L first_state (tick_list file)).phase ≡ end_of L.entry read.decision.tick
-  finish_phase times complete =
+  -- 20.
+  completes : Kind → got.answer.number ≡ 20 → read.decision.verdict ≡ Complete
+  completes (refusal r step is) h = absurd (no_verdict r step is Complete (sym h))
+  completes (verdict form is) h = only_complete_is_20 _ (is_number is ∙ h)
+
+  finishes : Consistent L → Kind → got.answer.number ≡ 20 → IsFinished L file bytes ledger got.answer.tick
+  finishes times (refusal r step is) h = absurd (no_verdict r step is Complete (sym h))
+  finishes times (verdict form is) h =
       let e = outcome_states L (tick_list file) in
-      subst⁻¹ (λ (o : Outcome). (state_after L first_state (tick_list file)).phase ≡ end_of L.entry o.decision.tick) e
-      (complete_ends _ _ (λ command. no_end times command complete)
-      (λ plain. plain_never_past L plain (tick_list file) first_state (λ f start. false≢true (ap ends_in start)))
-      (ap (λ (o : Outcome). o.decision.verdict) (sym e) ∙ complete))
+      let complete = ap (λ (o : Outcome). o.decision.verdict) (sym e) ∙ completes (verdict form is) h in
+      subst⁻¹ (λ (j : Judged). IsFinished L file bytes ledger j.answer.tick) is
+      (record {
+        form = form;
+        in_end =
+            subst⁻¹ (λ (o : Outcome). (state_after L first_state (tick_list file)).phase ≡ end_of L.entry o.decision.tick) e
+            (complete_ends _ _ (λ command. no_end times command (completes (verdict form is) h))
+            (λ plain. plain_never_past L plain (tick_list file) first_state (λ f start. false≢true (ap ends_in start))) complete);
+      })
 
-  some_byte : Consistent L → read.decision.verdict ≡ Complete → 1 ≤ length read.bytes
-  some_byte times complete =
+  sends_a_byte : Consistent L → Kind → got.answer.number ≡ 20 → 1 ≤ got.answer.count
+  sends_a_byte times (refusal r step is) h = absurd (no_verdict r step is Complete (sym h))
+  sends_a_byte times (verdict form is) h =
+      let complete = completes (verdict form is) h in
       let pair = (((demand3 L times (tick_list file)).exactly (values read.bytes)).0 (record { verdict = complete; bytes = refl })).0 in
-      omega (arith, length-values read.bytes, (pair_sends_bytes _ _ _ _ _ pair.explains.pair).one)
-
-module _ (chosen : Chosen) (file bytes ledger : List ℕ) where
-  abbrev got : Judged
-  got = given chosen file bytes ledger
-
-  -- What the judge gives is a refusal, which changes nothing, or a verdict.
-  data Kind : Type 0 where
-    refusal : (r : Refusal) (step : ℕ) → got ≡ leaves (refused r step) bytes ledger → Kind
-    verdict : (form : GoodWithRoom chosen file bytes ledger)
-        → got ≡ verdict_leaves (steps_of file) (read form.limits file) bytes ledger → Kind
-
-  by_form : (form : Form) → form_of file ≡ form → Kind
-  by_form (Refused r step) e = refusal r step (is_refused chosen file bytes ledger r step e)
-  by_form (Good n) e = by_profile chosen refl
-    where
-      by_room : (L : Limits) → chosen ≡ Known L → (t u : Bool) → ltb (length bytes) byte_room ≡ t → ltb (length ledger) ledger_room ≡ u → Kind
-      by_room L known true u et eu =
-          refusal ShortBuffers 0 (few_places chosen file bytes ledger n e L known (ltb-true (length bytes) byte_room et))
-      by_room L known false true et eu =
-          refusal ShortBuffers 0
-          (few_ledger_places chosen file bytes ledger n e L known (ltb-false (length bytes) byte_room et)
-          (ltb-true (length ledger) ledger_room eu))
-      by_room L known false false et eu =
-          let form : GoodWithRoom chosen file bytes ledger =
-          record {
-            steps = n;
-            good_form = (good_form file n).0 e;
-            limits = L;
-            known = known;
-            byte_room_lent = ltb-false (length bytes) byte_room et;
-            ledger_room_lent = ltb-false (length ledger) ledger_room eu;
-          } in
-          verdict form (good_verdict chosen file bytes ledger form)
-
-      by_profile : (c : Chosen) → chosen ≡ c → Kind
-      by_profile Unknown known = refusal NoSuchProfile 0 (no_profile_lem chosen file bytes ledger n e known)
-      by_profile (Known L) known = by_room L known (ltb (length bytes) byte_room) (ltb (length ledger) ledger_room) refl refl
-
-  -- The number of a verdict, and of a refusal.
-  is_number : (L : Limits) → got ≡ verdict_leaves (steps_of file) (read L file) bytes ledger
-      → verdict_number (read L file).decision.verdict ≡ got.answer.number
-  is_number L is = ap (λ (j : Judged). j.answer.number) (sym is)
-
-  no_verdict : (r : Refusal) (step : ℕ) → got ≡ leaves (refused r step) bytes ledger → (v : Verdict)
-      → verdict_number v ≡ got.answer.number → ⊥
-  no_verdict r step is v e = verdicts_are_no_refusals v r (e ∙ ap (λ (j : Judged). j.answer.number) is)
-
-  -- 20: it was read by the limits chosen, and is complete.
-  pub record Passed : Type 0 where
-    pub form : GoodWithRoom chosen file bytes ledger
-    pub is : got ≡ verdict_leaves (steps_of file) (read form.limits file) bytes ledger
-    pub complete : (read form.limits file).decision.verdict ≡ Complete
-
-  passed : Kind → got.answer.number ≡ 20 → Passed
-  passed (refusal r step is) h = absurd (no_verdict r step is Complete (sym h))
-  passed (verdict form is) h = record { form = form; is = is; complete = only_complete_is_20 _ (is_number form.limits is ∙ h) }
-
-  abbrev Times : Type 0
-  Times = (L : Limits) → chosen ≡ Known L → Consistent L
-
-  finishes : Times → Passed → IsFinished chosen file bytes ledger got.answer.tick
-  finishes times p =
-      let L = p.form.limits in
-      subst⁻¹ (λ (j : Judged). IsFinished chosen file bytes ledger j.answer.tick) p.is
-      (record { form = p.form; in_end = finish_phase L file (times L p.form.known) p.complete })
-
-  sends_a_byte : Times → Passed → 1 ≤ got.answer.count
-  sends_a_byte times p =
-      let L = p.form.limits in
-      subst⁻¹ (λ (j : Judged). 1 ≤ j.answer.count) p.is (some_byte L file (times L p.form.known) p.complete)
+      let one = (pair_sends_bytes _ _ _ _ _ pair.explains.pair).one in
+      subst⁻¹ (λ (j : Judged). 1 ≤ j.answer.count) is (omega (arith, length-values read.bytes, one))
 
   -- No steps.
   has_no_steps : (n : ℕ) → GoodForm file n → n ≡ 0 → steps_of file ≡ []
   unfolding steps_from
   has_no_steps n good e = good_steps file n good ∙ ap (steps_from file 0) e
 
-  cuts : (good : GoodWithRoom chosen file bytes ledger) → good.steps ≡ 0
+  cuts : (good : GoodWithRoom file bytes ledger) → good.steps ≡ 0
       → got ≡ leaves (record { number = 22; tick = 0; step = 0; count = 0 }) bytes ledger
   unfolding ticks run step_holding two_ticks
   cuts g e =
-      good_verdict chosen file bytes ledger g
-      ∙ ap (λ (steps : List Step). verdict_leaves steps (outcome g.limits (ticks_shown steps)) bytes ledger)
+      is_verdict L file bytes ledger g.steps ((good_form file g.steps).1 g.good_form) g.byte_room_lent g.ledger_room_lent
+      ∙ ap (λ (steps : List Step). verdict_leaves steps (outcome L (ticks_shown steps)) bytes ledger)
       (has_no_steps g.steps g.good_form e)
 
   -- Whether a refusal is due.
-  has_verdict : GoodWithRoom chosen file bytes ledger → IsVerdict got.answer.number
+  has_verdict : GoodWithRoom file bytes ledger → IsVerdict got.answer.number
   has_verdict form =
-      subst⁻¹ (λ (j : Judged). IsVerdict j.answer.number) (good_verdict chosen file bytes ledger form)
-      (record { verdict = (read form.limits file).decision.verdict; numbered = refl })
+      let good = (good_form file form.steps).1 form.good_form in
+      subst⁻¹ (λ (j : Judged). IsVerdict j.answer.number)
+      (is_verdict L file bytes ledger form.steps good form.byte_room_lent form.ledger_room_lent)
+      (record { verdict = read.decision.verdict; numbered = refl })
 
-  has_form : Kind → IsVerdict got.answer.number → GoodWithRoom chosen file bytes ledger
+  has_form : Kind → IsVerdict got.answer.number → GoodWithRoom file bytes ledger
   has_form (refusal r step is) h = absurd (no_verdict r step is h.verdict h.numbered)
   has_form (verdict form is) h = form
 
@@ -216,8 +191,7 @@ module _ (chosen : Chosen) (file bytes ledger : List ℕ) where
   unfolding steps_of
   ends (refusal r step is) h = absurd (no_verdict r step is Cut (sym h))
   ends (verdict form is) h =
-      let L = form.limits in
-      let cut = only_cut_is_22 (read L file).decision.verdict (is_number L is ∙ h) in
+      let cut = only_cut_is_22 read.decision.verdict (is_number is ∙ h) in
       let tick = (decision_tick L (tick_list file)).cut cut ∙ ticks_of_lem file in
       subst⁻¹ (λ (j : Judged). AtTheEnd file j.answer) is
       (record {
@@ -231,17 +205,16 @@ module _ (chosen : Chosen) (file bytes ledger : List ℕ) where
   unfolding steps_of
   held (refusal r step is) v h = absurd (no_verdict r step is v.verdict v.numbered)
   held (verdict form is) v h =
-      let L = form.limits in
-      let tick = (decision_tick L (tick_list file)).inside (λ cut. h (sym (is_number L is) ∙ ap verdict_number cut)) in
+      let tick = (decision_tick L (tick_list file)).inside (λ cut. h (sym (is_number is) ∙ ap verdict_number cut)) in
       subst⁻¹ (λ (j : Judged). Holds file j.answer.tick j.answer.step) is
-      (held_by_step file (read L file).decision.tick (omega (arith, ticks_of_lem file, tick)))
+      (held_by_step file read.decision.tick (omega (arith, ticks_of_lem file, tick)))
 
-  all_lines : Times → Mission chosen file bytes ledger
+  all_lines : Consistent L → Mission L file bytes ledger
   all_lines times =
       let kind = by_form (form_of file) refl in
       record {
-        only_finished_is_20 = λ h. finishes times (passed kind h);
-        no_byte_is_never_20 = λ h. sends_a_byte times (passed kind h);
+        only_finished_is_20 = finishes times kind;
+        no_byte_is_never_20 = sends_a_byte times kind;
         no_steps_are_cut = cuts;
         no_refusal_is_due = (has_verdict, has_form kind);
         refusals_change_nothing = unchanged kind;
@@ -249,18 +222,17 @@ module _ (chosen : Chosen) (file bytes ledger : List ℕ) where
         step_holds_tick = held kind;
       }
 
-  pub passes_read : got.answer.number ≡ 20 → Passed
-  passes_read h = passed (by_form (form_of file) refl) h
-
 pub mission : MissionLaw
-mission chosen times file bytes ledger = all_lines chosen file bytes ledger times
+mission L times file bytes ledger = all_lines L file bytes ledger times
 
-pub profile_mission : ProfileMissionLaw
-profile_mission entry profile file bytes ledger = mission (limits_of entry profile) (profile_consistent entry profile) file bytes ledger
+pub standard_mission : StandardMissionLaw
+standard_mission file bytes ledger =
+    record {
+      plain = mission standard_limits standard_consistent file bytes ledger;
+      command = mission command_limits (commands_consistent standard_limits standard_consistent) file bytes ledger;
+    }
 
 pub never_both_pass : NeverBothLaw
-never_both_pass p q file b g b' g' x y =
-    let plain = passes_read (limits_of Plain p) file b g x in
-    let command = passes_read (limits_of Command q) file b' g' y in
-    never_both plain.form.limits command.form.limits (tick_list file) (profile_entry Plain p _ plain.form.known)
-    (profile_entry Command q _ command.form.known) plain.complete command.complete
+never_both_pass L M file b g b' g' p c x y =
+    never_both L M (tick_list file) p c (completes L file b g (by_form L file b g (form_of file) refl) x)
+    (completes M file b' g' (by_form M file b' g' (form_of file) refl) y)

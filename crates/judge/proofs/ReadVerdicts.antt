@@ -6,8 +6,7 @@ use Rattle.answer.specs.{Types.Answer, Answers.◌over◌, Numbers.verdict_numbe
 use Rattle.recording.specs.{Types.Good, Types.Step, Form.form_of, Ticks.steps_from}
 use Rattle.recording.proofs.GoodFormLaws.{good_form}
 use Rattle.reader.specs.{After.handed_over, States.first_state}
-use Rattle.transfer.specs.Types.{Limits, Chosen, Known, Tick, Decision}
-use Rattle.transfer.specs.{Outcome.Outcome, Outcome.outcome, Pair.values, Moves.decision_of}
+use Rattle.transfer.specs.{Types.Limits, Types.Tick, Types.Decision, Outcome.Outcome, Outcome.outcome, Pair.values, Moves.decision_of}
 use Rattle.reader.specs.declared.state.State.{State}
 use Rattle.reader.proofs.{TickLaws.counts, Outcomes.outcome_states}
 use Rattle.judge.specs.Judged.{leaves, byte_room, ledger_room, ticks_shown, two_ticks, step_holding, verdict_answer, verdict_leaves, judged}
@@ -35,14 +34,13 @@ read_verdict L steps w b g =
     ∙ ap (λ (o : Outcome). verdict_leaves steps o b g) (sym (outcome_states L w))
 
 -- A recording of good form that was read, with enough room lent.
-pub is_read : (chosen : Chosen) (file b g : List ℕ) (n : ℕ) → form_of file ≡ Good n → (L : Limits) → chosen ≡ Known L
-    → byte_room ≤ length b → ledger_room ≤ length g
+pub is_read : (L : Limits) (file b g : List ℕ) (n : ℕ) → form_of file ≡ Good n → byte_room ≤ length b → ledger_room ≤ length g
     → (s : State) (b' g' : List ℕ) (a : Answer) → reached s b' g' ≡ read_into L (ticks_from file 0 n) b g
-    → a ≡ state_answer (steps_from file 0 n) s → leaves a b' g' ≡ judged chosen file b g
-is_read chosen file b g n e L known hb hg s b' g' a er ea =
+    → a ≡ state_answer (steps_from file 0 n) s → leaves a b' g' ≡ judged L file b g
+is_read L file b g n e hb hg s b' g' a er ea =
     let good = (good_form file n).0 e in
     ap (λ (x : Answer). leaves x b' g') ea
     ∙ ap (λ (r : Reached). leaves (state_answer (steps_from file 0 n) r.state) r.bytes r.ledger) er
     ∙ read_verdict L (steps_from file 0 n) (ticks_from file 0 n) b g
     ∙ ap (λ (steps : List Step). verdict_leaves steps (outcome L (ticks_shown steps)) b g) (sym (good_steps file n good))
-    ∙ sym (is_verdict chosen file b g n e L known hb hg)
+    ∙ sym (is_verdict L file b g n e hb hg)

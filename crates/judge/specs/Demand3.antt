@@ -2,16 +2,13 @@
 use Rattle.answer.specs.Basics.{ℕ, ◌≤◌, List, [], ◌∷◌, length, ◌≡◌}
 use Rattle.answer.specs.Answers.{first}
 use Rattle.recording.specs.{GoodForm.GoodForm, Ticks.NoStepMarked}
-use Rattle.transfer.specs.{Types.Limits, Types.Chosen, Types.Known, Types.Byte, Demand3.Demand3}
+use Rattle.transfer.specs.{Types.Limits, Types.Byte, Demand3.Demand3}
 use Rattle.judge.specs.Judged.{Judged, byte_room, ledger_room, line_list}
 
--- "Of good form, with enough room lent, if no refusal that the judge may give is due, those that a request adds included": so the
--- profile is one, and has limits.
-pub record GoodWithRoom (chosen : Chosen) (file bytes ledger : List ℕ) : Type 0 where
+-- "Of good form, with enough room lent, if no refusal that the judge may give is due."
+pub record GoodWithRoom (file bytes ledger : List ℕ) : Type 0 where
   pub steps : ℕ
   pub good_form : GoodForm file steps
-  pub limits : Limits
-  pub known : chosen ≡ Known limits
   pub byte_room_lent : byte_room ≤ length bytes
   pub ledger_room_lent : ledger_room ≤ length ledger
 

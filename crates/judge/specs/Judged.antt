@@ -1,10 +1,10 @@
 -- What the judge answers and leaves, for any bytes and any lent buffers: document 01, "Numbers and what they leave".
 use Rattle.answer.specs.Basics.{ℕ, suc, ◌-◌, List, [], ◌∷◌, map, length, ltb, if◌then◌else◌}
-use Rattle.answer.specs.{Types.Answer, Types.ShortBuffers, Types.NoSuchProfile, Answers.refused, Answers.◌over◌, Numbers.verdict_number}
+use Rattle.answer.specs.{Types.Answer, Types.ShortBuffers, Answers.refused, Answers.◌over◌, Numbers.verdict_number}
 use Rattle.recording.specs.{Form.form_of, Ticks.Tick as Recorded, Ticks.steps_of, Ticks.ticks}
 use Rattle.recording.specs.Types.{Form, Good, Refused, Step}
 use Rattle.transfer.specs.{Lines.lines_of, Outcome.Outcome, Outcome.outcome, Pair.values, Ticks.lines_in}
-use Rattle.transfer.specs.Types.{Chosen, Known, Unknown, Lines, Tick, Byte, Decision}
+use Rattle.transfer.specs.Types.{Limits, Lines, Tick, Byte, Decision}
 
 -- What the judge leaves: an answer, and both lent buffers.
 pub record Judged : Type 0 where
@@ -57,17 +57,14 @@ verdict_leaves steps o bytes ledger =
     leaves (verdict_answer steps o.decision (length o.bytes)) (values o.bytes over bytes) (two_ticks o.bytes over ledger)
 
 -- Steps whose form was tested. At a refusal "no lent byte or number changes".
-unfoldable pub judged_in_form : Chosen → List Step → Form → (bytes ledger : List ℕ) → Judged
-judged_in_form chosen steps (Refused refusal step) bytes ledger = leaves (refused refusal step) bytes ledger
--- #104: a number that is no profile's "is refused as 12, after 8 and before 9"
-judged_in_form Unknown steps (Good n) bytes ledger = leaves (refused NoSuchProfile 0) bytes ledger
-judged_in_form (Known L) steps (Good n) bytes ledger =
+unfoldable pub judged_in_form : Limits → List Step → Form → (bytes ledger : List ℕ) → Judged
+judged_in_form L steps (Refused refusal step) bytes ledger = leaves (refused refusal step) bytes ledger
+judged_in_form L steps (Good n) bytes ledger =
     -- 9: "byte buffer under 1,000 places, or ledger under 2,000"
     if ltb (length bytes) byte_room then leaves (refused ShortBuffers 0) bytes ledger else
     if ltb (length ledger) ledger_room then leaves (refused ShortBuffers 0) bytes ledger else
     verdict_leaves steps (outcome L (ticks_shown steps)) bytes ledger
 
--- What the judge gives, by what the caller chose: the form is tested first (1 to 8), then the profile (12), then the room (9), and then
--- the recording is read.
-unfoldable pub judged : Chosen → (file bytes ledger : List ℕ) → Judged
-judged chosen file bytes ledger = judged_in_form chosen (steps_of file) (form_of file) bytes ledger
+-- What the judge gives: the form is tested first (1 to 8), then the room (9), and then the recording is read.
+unfoldable pub judged : Limits → (file bytes ledger : List ℕ) → Judged
+judged L file bytes ledger = judged_in_form L (steps_of file) (form_of file) bytes ledger

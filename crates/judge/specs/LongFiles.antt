@@ -2,9 +2,9 @@
 -- recording may hand over the beginning of such a file: the judge gives for it what it gives for the whole file.
 use Rattle.answer.specs.Basics.{ℕ, ◌<◌, List, ◌++◌, length, ◌≡◌}
 use Rattle.recording.specs.LongFiles.{longest_recording}
-use Rattle.transfer.specs.Types.{Chosen}
+use Rattle.transfer.specs.Types.{Limits}
 use Rattle.judge.specs.Judged.{judged}
 
 abbrev pub LongFileLaw : Type 0
-LongFileLaw = (chosen : Chosen) (beginning rest bytes ledger : List ℕ) → longest_recording < length beginning
-    → judged chosen (beginning ++ rest) bytes ledger ≡ judged chosen beginning bytes ledger
+LongFileLaw = (L : Limits) (beginning rest bytes ledger : List ℕ) → longest_recording < length beginning
+    → judged L (beginning ++ rest) bytes ledger ≡ judged L beginning bytes ledger

@@ -2,8 +2,8 @@
 use Rattle.answer.specs.Basics.{ℕ, suc, ◌≤◌, ◌<◌, List, ◌≡◌, ◌↔◌}
 use Rattle.answer.specs.{Types.Answer, Numbers.IsVerdict}
 use Rattle.recording.specs.{Layout.header_at, Ticks.steps_from, Ticks.total_ticks}
-use Rattle.transfer.specs.Types.{Entry, Plain, Command, Limits, Chosen, Known, Phase, End, Finished}
-use Rattle.transfer.specs.{Demand3.Consistent, Profiles.limits_of}
+use Rattle.transfer.specs.Types.{Entry, Plain, Command, Limits, Phase, End, Finished}
+use Rattle.transfer.specs.{Demand3.Consistent, Limits.standard_limits, Limits.command_limits}
 use Rattle.reader.specs.{After.state_after, States.first_state}
 use Rattle.judge.specs.Demand3.{GoodWithRoom}
 use Rattle.judge.specs.Judged.{Judged, leaves, judged, tick_list}
@@ -24,16 +24,16 @@ abbrev pub end_of : Entry → (finish : ℕ) → Phase
 end_of Plain finish = End finish
 end_of Command finish = Finished finish
 
-module _ (chosen : Chosen) (file bytes ledger : List ℕ) where
+module _ (L : Limits) (file bytes ledger : List ℕ) where
   -- What the judge gives.
   abbrev pub given : Judged
-  given = judged chosen file bytes ledger
+  given = judged L file bytes ledger
 
   -- The transfer is finished: the recording is of good form, with enough room lent, and runs out in the entry's last phase, whose first
   -- tick is the finish tick.
   pub record IsFinished (finish : ℕ) : Type 0 where
-    pub form : GoodWithRoom chosen file bytes ledger
-    pub in_end : (state_after form.limits first_state (tick_list file)).phase ≡ end_of form.limits.entry finish
+    pub form : GoodWithRoom file bytes ledger
+    pub in_end : (state_after L first_state (tick_list file)).phase ≡ end_of L.entry finish
 
   pub record Mission : Type 0 where
     -- Nothing but a finished transfer is ever 20, and its tick is the finish tick.
@@ -41,10 +41,10 @@ module _ (chosen : Chosen) (file bytes ledger : List ℕ) where
     -- A transfer of no byte is never 20.
     pub no_byte_is_never_20 : given.answer.number ≡ 20 → 1 ≤ given.answer.count
     -- A well-formed recording of no steps, with room enough, is 22 at tick 0, step 0, and no place of lent memory changes.
-    pub no_steps_are_cut : (good : GoodWithRoom chosen file bytes ledger) → good.steps ≡ 0
+    pub no_steps_are_cut : (good : GoodWithRoom file bytes ledger) → good.steps ≡ 0
         → given ≡ leaves (record { number = 22; tick = 0; step = 0; count = 0 }) bytes ledger
     -- "Of good form, with enough room lent, if no refusal that the judge may give is due."
-    pub no_refusal_is_due : GoodWithRoom chosen file bytes ledger ↔ IsVerdict given.answer.number
+    pub no_refusal_is_due : GoodWithRoom file bytes ledger ↔ IsVerdict given.answer.number
     -- A refusal has tick 0 and count 0, "and no lent byte or number changes".
     pub refusals_change_nothing : (IsVerdict given.answer.number → ⊥)
         → given ≡ leaves (record { number = given.answer.number; tick = 0; step = given.answer.step; count = 0 }) bytes ledger
@@ -54,24 +54,20 @@ module _ (chosen : Chosen) (file bytes ledger : List ℕ) where
     pub step_holds_tick : IsVerdict given.answer.number → (given.answer.number ≡ 22 → ⊥)
         → Holds file given.answer.tick given.answer.step
 
--- For all times that are consistent, whether or not what was chosen has any.
+-- For all times that are consistent.
 abbrev pub MissionLaw : Type 0
-MissionLaw =
-    (chosen : Chosen) → ((L : Limits) → chosen ≡ Known L → Consistent L) → (file bytes ledger : List ℕ) → Mission chosen file bytes ledger
+MissionLaw = (L : Limits) → Consistent L → (file bytes ledger : List ℕ) → Mission L file bytes ledger
 
--- And so by either entry, whatever number the caller names.
-abbrev pub ProfileMissionLaw : Type 0
-ProfileMissionLaw = (entry : Entry) (profile : ℕ) (file bytes ledger : List ℕ) → Mission (limits_of entry profile) file bytes ledger
+-- And so for document 01's own, of both entries.
+pub record StandardMission (file bytes ledger : List ℕ) : Type 0 where
+  pub plain : Mission standard_limits file bytes ledger
+  pub command : Mission command_limits file bytes ledger
 
--- No recording passes both entries, whatever the profiles and whatever is lent.
+abbrev pub StandardMissionLaw : Type 0
+StandardMissionLaw = (file bytes ledger : List ℕ) → StandardMission file bytes ledger
+
+-- No recording passes both entries, whatever the times and whatever is lent.
 abbrev pub NeverBothLaw : Type 0
 NeverBothLaw =
-    (profile profile' : ℕ) (file bytes ledger bytes' ledger' : List ℕ)
-    → (judged (limits_of Plain profile) file bytes ledger).answer.number ≡ 20
-    → (judged (limits_of Command profile') file bytes' ledger').answer.number ≡ 20 → ⊥
-
--- #104: "Whatever is complete under 1 is complete under 0 with the same bytes and ledger": the two judgements, whole, are equal.
-abbrev pub WiderProfileLaw : Type 0
-WiderProfileLaw =
-    (entry : Entry) (file bytes ledger : List ℕ) → (judged (limits_of entry 1) file bytes ledger).answer.number ≡ 20
-    → judged (limits_of entry 0) file bytes ledger ≡ judged (limits_of entry 1) file bytes ledger
+    (L M : Limits) (file bytes ledger bytes' ledger' : List ℕ) → L.entry ≡ Plain → M.entry ≡ Command
+    → (judged L file bytes ledger).answer.number ≡ 20 → (judged M file bytes' ledger').answer.number ≡ 20 → ⊥

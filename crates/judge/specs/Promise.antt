@@ -1,11 +1,11 @@
 -- What an entry promises that judges a file: of the answer and of both lent buffers, whole, as the call leaves them.
 use Rattle.answer.specs.Basics.{ℕ, List, ◌≡◌}
-use Rattle.transfer.specs.Types.{Chosen}
+use Rattle.transfer.specs.Types.{Limits}
 use Rattle.judge.specs.{Judged.Judged, Judged.judged, Demand3.GoodWithRoom, Demand3.FileDemand3}
 
-pub record JudgePromise (chosen : Chosen) (file bytes ledger : List ℕ) (left : Judged) : Type 0 where
+pub record JudgePromise (L : Limits) (file bytes ledger : List ℕ) (left : Judged) : Type 0 where
   -- They are what the definition gives.
-  pub given : left ≡ judged chosen file bytes ledger
-  -- Demand 3: of good form, with enough room lent, the recording is complete with a string exactly if a pair for it that keeps the rules
-  -- of the profile gives the recording and no step is marked.
-  pub explained : (good : GoodWithRoom chosen file bytes ledger) → FileDemand3 good.limits file left
+  pub given : left ≡ judged L file bytes ledger
+  -- Demand 3: of good form, with enough room lent, the recording is complete with a string exactly if a pair for it gives the recording
+  -- and no step is marked.
+  pub explained : GoodWithRoom file bytes ledger → FileDemand3 L file left

@@ -1,8 +1,7 @@
--- Where two rows of document 01, of #101, of #103 or of #104 meet: tick lists whose outcomes show how they are read there, and on which
--- tick each time falls. docs/DECISIONS.md gives the reasons.
-use Rattle.answer.specs.Basics.{ℕ, Bool, true, false, ◌&&◌, List, [], ◌∷◌, ◌++◌, length, ◌≡◌, eqb}
-use Rattle.transfer.specs.{Types.Plain, Types.Command, Types.Limits, Types.Chosen, Types.Known, Types.Unknown}
-use Rattle.transfer.specs.{Profiles.limits_of, Outcome.outcome}
+-- Where two rows of document 01, of #101 or of #103 meet: tick lists whose outcomes show how they are read there, and on which tick each
+-- time falls. docs/DECISIONS.md gives the reasons.
+use Rattle.answer.specs.Basics.{ℕ, Bool, true, ◌&&◌, List, [], ◌∷◌, ◌++◌, length, ◌≡◌, eqb}
+use Rattle.transfer.specs.{Types.Limits, Limits.standard_limits, Limits.command_limits, Outcome.outcome}
 use Rattle.transfer.specs.Spans.{Span, ticks, ◌∶◌, lost, opening, bits, till41, s1, attended, listen}
 use Rattle.answer.specs.Numbers.{verdict_number}
 
@@ -175,41 +174,15 @@ command_readings =
     ∷ reads [] 22 0 0
     ∷ []
 
--- #104, profile 1: "60 in place of 20".
-abbrev pub video_chip_readings : List Reading
-video_chip_readings =
-    -- S1, whose valid times are 60.
-    reads s1 20 1910 1
-    -- A CLK pull after 59 valid ticks, not after 60: 32, also with DATA moved in the same tick, and after bit 8.
-    ∷ reads (opening 220 80 ++ (70 ∶ 6 ∷ 59 ∶ 4 ∷ 1 ∶ 2 ∷ [])) 32 719 0
-    ∷ reads (opening 220 80 ++ (70 ∶ 6 ∷ 60 ∶ 4 ∷ 1 ∶ 2 ∷ [])) 22 721 0
-    ∷ reads (opening 220 80 ++ (bits (0 ∷ 0 ∷ 0 ∷ 0 ∷ 0 ∷ 0 ∷ 0 ∷ []) ++ (70 ∶ 2 ∷ 59 ∶ 0 ∷ 1 ∶ 6 ∷ []))) 32 1629 0
-    -- The other times of 60 stay: an acknowledgement of 59 is too short, and CLK is pulled up to 60 ticks after it.
-    ∷ reads (opening 220 59) 28 529 0
-    ∷ reads (200 ∶ 6 ∷ 50 ∶ 4 ∷ 220 ∶ 0 ∷ 60 ∶ 4 ∷ 60 ∶ 0 ∷ 1 ∶ 2 ∷ []) 22 591 0
-    ∷ reads (200 ∶ 6 ∷ 50 ∶ 4 ∷ 220 ∶ 0 ∷ 60 ∶ 4 ∷ 61 ∶ 0 ∷ 1 ∶ 2 ∷ []) 30 591 0
-    ∷ []
-
-abbrev pub video_chip_command_readings : List Reading
-video_chip_command_readings =
-    reads (listen 200 ++ (1 ∶ 6 ∷ [])) 20 2960 2
-    ∷ reads (attended (200 ∶ 6 ∷ 50 ∶ 4 ∷ 60 ∶ 0 ∷ 70 ∶ 6 ∷ 59 ∶ 4 ∷ 1 ∶ 6 ∷ [])) 32 439 0
-    ∷ reads (attended (200 ∶ 6 ∷ 50 ∶ 4 ∷ 60 ∶ 0 ∷ 70 ∶ 6 ∷ 60 ∶ 4 ∷ 1 ∶ 6 ∷ [])) 22 441 0
-    ∷ []
-
 abbrev pub holds : Limits → Reading → Bool
 holds L (reads spans number tick count) =
     let o = outcome L (ticks spans) in
     eqb (verdict_number o.decision.verdict) number && (eqb o.decision.tick tick && eqb (length o.bytes) count)
 
-abbrev pub all_hold : Chosen → List Reading → Bool
-all_hold Unknown rs = false
-all_hold (Known L) [] = true
-all_hold (Known L) (r ∷ rs) = holds L r && all_hold (Known L) rs
+abbrev pub all_hold : Limits → List Reading → Bool
+all_hold L [] = true
+all_hold L (r ∷ rs) = holds L r && all_hold L rs
 
--- By profile 0 and by profile 1.
 pub record ReadingsHold : Type 0 where
-  pub plain : all_hold (limits_of Plain 0) readings ≡ true
-  pub command : all_hold (limits_of Command 0) command_readings ≡ true
-  pub video_chip_lem : all_hold (limits_of Plain 1) video_chip_readings ≡ true
-  pub video_chip_command : all_hold (limits_of Command 1) video_chip_command_readings ≡ true
+  pub plain : all_hold standard_limits readings ≡ true
+  pub command : all_hold command_limits command_readings ≡ true

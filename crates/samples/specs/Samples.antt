@@ -1,19 +1,18 @@
 -- Document 01, "Sample recordings": the starred ones, in its order, each judged as a whole file; a cut after a byte; every refusal;
--- recordings for the command entry; marked ones; and the profiles.
+-- recordings for the command entry; and marked ones.
 use Rattle.answer.specs.Basics.{ℕ, zero, suc, ◌+◌, List, [], ◌∷◌, ◌++◌, map, replicate, ◌≡◌}
 use Rattle.answer.specs.{Types.Answer, Answers.◌over◌}
 use Rattle.recording.specs.{Types.Step, FileOf.header_bytes, FileOf.file_of}
 use Rattle.recording.specs.SampleSteps.{◌∶◌, lost, zeros, s1_with, s1, s80_with, s1_file}
-use Rattle.transfer.specs.{Types.Entry, Types.Plain, Types.Command, Profiles.limits_of, Spans.s1 as s1Spans, Spans.ticks}
+use Rattle.transfer.specs.{Types.Limits, Limits.standard_limits, Limits.command_limits, Spans.s1 as s1Spans, Spans.ticks}
 use Rattle.judge.specs.Judged.{Judged, leaves, ticks_shown, judged}
 
 -- A file and the buffers lent with it, the answer, and what the two buffers then begin with.
 pub data Sample : Type 0 where
   sample : (file lent-bytes lent-ledger : List ℕ) → Answer → (bytes ledger : List ℕ) → Sample
 
-abbrev pub judged_sample : Entry → (profile : ℕ) → Sample → Judged
-judged_sample entry profile (sample file lent-bytes lent-ledger answer bytes ledger) =
-    judged (limits_of entry profile) file lent-bytes lent-ledger
+abbrev pub judged_sample : Limits → Sample → Judged
+judged_sample L (sample file lent-bytes lent-ledger answer bytes ledger) = judged L file lent-bytes lent-ledger
 
 abbrev pub expected_of : Sample → Judged
 expected_of (sample file lent-bytes lent-ledger answer bytes ledger) = leaves answer (bytes over lent-bytes) (ledger over lent-ledger)
@@ -178,40 +177,9 @@ command_overruns =
 abbrev pub all : List Sample
 all = samples ++ (cut_after_byte ∷ commands_as_data ∷ (refusals ++ overruns))
 
--- #104. By profile 1 a first valid time of 59 is too short, and 60 is not.
-abbrev pub video_chip : List Sample
-video_chip =
-    sends s1 1910 24 0x41 1630 1660
-    ∷ stops (s1_with 220 80 40 59 200) 32 719 7
-    ∷ stops (s1_with 220 80 40 20 200) 32 680 7
-    ∷ []
-
--- A number that is no profile's: 12, after 8 and before 9, and before any tick is read.
-abbrev pub no_profile : List Sample
-no_profile =
-    refuses (replicate 15 0) [] [] 1 0
-    ∷ refuses (file_of (200 ∶ 6 ∷ 0 ∶ 4 ∷ [])) [] [] 6 1
-    ∷ refuses (header_only 1 0 16 1 16) [] [] 8 0
-    ∷ refuses s1_file marked_bytes marked_ledger 12 0
-    ∷ refuses s1_file (replicate 999 0xA5) marked_ledger 12 0
-    ∷ refuses s1_file marked_bytes (replicate 1999 0xA5A5A5A5) 12 0
-    ∷ refuses (file_of []) marked_bytes marked_ledger 12 0
-    ∷ []
-
--- Some recordings, by an entry and a profile.
-abbrev pub Hold : Entry → (profile : ℕ) → List Sample → Type 0
-Hold entry profile some = map (judged_sample entry profile) some ≡ map expected_of some
-
 pub record SamplesHold : Type 0 where
-  pub plain : Hold Plain 0 all
-  pub command : Hold Command 0 (commands ++ command_overruns)
-  pub video_chip_lem : Hold Plain 1 video_chip
-  pub no_profile_lem : Hold Plain 2 no_profile
-  pub no_command_profile : Hold Command 2 no_profile
-  -- No other number becomes a profile, by its low bits or otherwise.
-  pub low_byte : Hold Plain 256 no_profile
-  pub low_half : Hold Command 65537 no_profile
-  pub largest : Hold Plain 4294967295 no_profile
+  pub plain : map (judged_sample standard_limits) all ≡ map expected_of all
+  pub command : map (judged_sample command_limits) (commands ++ command_overruns) ≡ map expected_of (commands ++ command_overruns)
 
 -- S1's file is the one that document 01 prints.
 abbrev pub S1Printed : Type 0

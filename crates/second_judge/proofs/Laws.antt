@@ -35,12 +35,12 @@ kept_from {j} {k} {a} {b} later kept =
     }
 
 -- an answer leaves the lent memory as long as it was
-pub as_long_answered : {entry : Entry} {profile : ℕ} {finding : Finding} {file bytes bytes' ledger ledger' : List ℕ}
-    → Answered entry profile finding file bytes bytes' ledger ledger'
+pub as_long_answered : {entry : Entry} {finding : Finding} {file bytes bytes' ledger ledger' : List ℕ}
+    → Answered entry finding file bytes bytes' ledger ledger'
     → (length bytes' ≡ length bytes) × (length ledger' ≡ length ledger)
 as_long_answered answered =
     ⊎_elim (λ refused. (ap length refused.same_bytes, ap length refused.same_ledger))
-    (λ judged. (judged.1.bytes_kept.as_long, judged.1.ledger_kept.as_long)) answered
+    (λ judged. (judged.bytes_kept.as_long, judged.ledger_kept.as_long)) answered
 
 -- ---- a recording's ticks
 

@@ -7,8 +7,8 @@ use mathlib.Core.Path.{◌≡◌, refl, subst}
 use native.Mathlib.Decide.{ℕ_discrete}
 use lib.Dec.{eqb}
 use borrow.Author.Tests.{ne_eqb}
-use Rattle.second_judge.specs.Numbers.{after_end_mark, Among, ending, finish, leading, leading_both, stay}
-use Rattle.second_judge.specs.Numbers.{standing, standing_one, the_end, while_reading}
+use Rattle.second_judge.specs.Numbers.{after_end_mark, Among, ending, finish, leading, leading_both, stay, the_end}
+use Rattle.second_judge.specs.Numbers.{standing, standing_one, while_reading}
 use Rattle.second_judge.specs.declared.entry.Entry.{Entry}
 use Rattle.second_judge.specs.declared.entry.Entry.TheVariants.{Plain, Command}
 
@@ -50,10 +50,9 @@ pub with_plain : (P : Entry → Type 0) (entry : Entry) (phase : ℕ) → Among 
     → Among (the_end ∷ standing entry) phase → P Plain → P entry
 with_plain P entry phase here stands plain =
     let never =
-    of_each (λ (n : ℕ). Among (the_end ∷ standing Command) n → ⊥) after_end_mark phase here
-    ((λ h. h), ((λ h. h), tt)) in
-    by_entry (λ (e : Entry). Among (the_end ∷ standing e) phase → P e) (λ _. plain) (λ there. absurd (never there))
-    entry stands
+    of_each (λ (n : ℕ). Among (the_end ∷ standing Command) n → ⊥) after_end_mark phase here ((λ h. h), ((λ h. h), tt)) in
+    by_entry (λ (e : Entry). Among (the_end ∷ standing e) phase → P e) (λ _. plain) (λ there. absurd (never there)) entry
+    stands
 
 -- what both may lead to, each may lead to
 pub each : (entry : Entry) (next : ℕ) → Among leading_both next → Among (leading entry) next

@@ -1,7 +1,6 @@
--- The numbers that a judge may give, from document 01's "Numbers and what they leave" and document 02's #101, #103 and
--- #104, and those that the reading goes through, from `src/phase.rt`. A further number is a further place in a list.
--- Assumes nothing.
-use Rattle.second_judge.specs.{ℕ, ◌≤◌, cond, eqb, List, [], ◌∷◌, ◌++◌, ◌≡◌}
+-- The numbers that a judge may give, from document 01's "Numbers and what they leave" and document 02's #101 and #103, and
+-- those that the reading goes through, from `src/phase.rt`. A further number is a further place in a list. Assumes nothing.
+use Rattle.second_judge.specs.{ℕ, cond, eqb, List, [], ◌∷◌, ◌++◌, ◌≡◌}
 use Rattle.second_judge.specs.declared.entry.Entry.{Entry}
 use Rattle.second_judge.specs.declared.entry.Entry.TheVariants.{Plain, Command}
 
@@ -10,20 +9,11 @@ abbrev pub Among : List ℕ → ℕ → Type 0
 Among [] n = ⊥
 Among (one ∷ others) n = cond (eqb n one) Unit (Among others n)
 
--- "Refusals, tested in this order", of the file: 1 fewer than 16 bytes; 2 version is not 1; 3 n above 16,000;
+-- "Refusals, tested in this order", but the writer's: 1 fewer than 16 bytes; 2 version is not 1; 3 n above 16,000;
 -- 4 offset is not 16; 5 length field, or true length, is not 16+4n; 6 a step of duration 0; 7 a step with other line
--- bits or a last byte above 1 (#103); 8 total ticks wrong.
-abbrev pub file_refusals : List ℕ
-file_refusals = 1 ∷ 2 ∷ 3 ∷ 4 ∷ 5 ∷ 6 ∷ 7 ∷ 8 ∷ []
-
--- Those, and the caller's: 12 a profile that is neither 0 nor 1, "after 8 and before 9" (#104); 9 byte buffer under
--- 1,000 places, or ledger under 2,000.
+-- bits or a last byte above 1 (#103); 8 total ticks wrong; 9 byte buffer under 1,000 places, or ledger under 2,000.
 abbrev pub refusals : List ℕ
-refusals = file_refusals ++ (12 ∷ 9 ∷ [])
-
--- The profiles of #104: "0 for today's rules or 1 with 60 in place of 20".
-abbrev pub Profile : ℕ → Type 0
-Profile n = n ≤ 1
+refusals = 1 ∷ 2 ∷ 3 ∷ 4 ∷ 5 ∷ 6 ∷ 7 ∷ 8 ∷ 9 ∷ []
 
 -- Verdicts of both entries while the recording is read, by what the lines show: 24 no receiver, 25 bad start, 26 out of
 -- turn, 32 valid time short, 33 data moved, 34 clock stall, 35 receiver time-out, 36 hurried, 37 moved after the end.
@@ -41,8 +31,7 @@ abbrev pub while_reading : Entry → List ℕ
 while_reading entry = of_both ++ of_one entry
 
 -- Those, and 20 complete and 22 cut: "The recording running out gives 20 in E, 22 anywhere else"; in #101 "Running out
--- gives 20 with the finish tick, or 22 before it." And 40, which the mark of a step gives, whatever the lines show
--- (#103).
+-- gives 20 with the finish tick, or 22 before it." And 40, which the mark of a step gives, whatever the lines show (#103).
 abbrev pub verdicts : Entry → List ℕ
 verdicts entry = 20 ∷ 22 ∷ 40 ∷ while_reading entry
 

@@ -3,7 +3,7 @@
 use Rattle.second_judge.specs.{ℕ, ◌+◌, ◌*◌, ◌<◌, List, [], ◌∷◌, length, drop, ◌≡◌, ◌⊎◌}
 use Rattle.second_judge.specs.declared.Finding.{Finding}
 use Rattle.second_judge.specs.declared.entry.Entry.{Entry}
-use Rattle.second_judge.specs.Numbers.{Among, Profile, refusals, verdicts, while_reading}
+use Rattle.second_judge.specs.Numbers.{Among, refusals, verdicts, while_reading}
 use Rattle.second_judge.specs.Recording.{step_count, total_ticks_lem, lines, AtRest, Marked, Unmarked, ticks}
 
 -- "All further places keep what they held."
@@ -12,11 +12,8 @@ pub record Kept (further : ℕ) (before after : List ℕ) : Type 0 where
   pub the_same : drop further after ≡ drop further before
 
 -- "Every refusal has tick 0 and count 0, .. and no lent byte or number changes."
-pub record Refused (profile : ℕ) (finding : Finding) (bytes bytes' ledger ledger' : List ℕ) : Type 0 where
+pub record Refused (finding : Finding) (bytes bytes' ledger ledger' : List ℕ) : Type 0 where
   pub a_refusal : Among refusals finding.number
-  -- #104: "another number is refused as 12, after 8 and before 9"
-  pub another_profile : finding.number ≡ 12 → Profile profile → ⊥
-  pub before_9 : finding.number ≡ 9 → Profile profile
   pub tick_0 : finding.tick ≡ 0
   pub count_0 : finding.count ≡ 0
   pub same_bytes : bytes' ≡ bytes
@@ -27,8 +24,8 @@ pub record Timed (finding : Finding) (total steps : ℕ) : Type 0 where
   pub at_the_end : finding.number ≡ 22 → (finding.tick ≡ total) × (finding.step ≡ steps)
   pub before_the_end : (finding.number ≡ 22 → ⊥) → (finding.tick < total) × (finding.step < steps)
 
--- #103: "The first tick of a marked step gives verdict 40": no other tick does, and no later mark. A verdict by what
--- the lines show falls before any mark, and the recording is complete or cut only if "no step is marked".
+-- #103: "The first tick of a marked step gives verdict 40": no other tick does, and no later mark. A verdict by what the
+-- lines show falls before any mark, and the recording is complete or cut only if "no step is marked".
 pub record Heeded (entry : Entry) (finding : Finding) (file : List ℕ) : Type 0 where
   pub at_the_first : finding.number ≡ 40 → Marked file finding.step × (finding.tick ≡ ticks file finding.step)
       × Unmarked file finding.step
@@ -45,8 +42,6 @@ pub record Judged (entry : Entry) (finding : Finding) (file bytes bytes' ledger 
   pub bytes_kept : Kept finding.count bytes bytes'
   pub ledger_kept : Kept (2 * finding.count) ledger ledger'
 
--- A verdict is given under a profile of #104 alone.
-abbrev pub Answered : Entry → ℕ → Finding → List ℕ → List ℕ → List ℕ → List ℕ → List ℕ → Type 0
-Answered entry profile finding file bytes bytes' ledger ledger' =
-    Refused profile finding bytes bytes' ledger ledger'
-    ⊎ (Profile profile × Judged entry finding file bytes bytes' ledger ledger')
+abbrev pub Answered : Entry → Finding → List ℕ → List ℕ → List ℕ → List ℕ → List ℕ → Type 0
+Answered entry finding file bytes bytes' ledger ledger' =
+    Refused finding bytes bytes' ledger ledger' ⊎ Judged entry finding file bytes bytes' ledger ledger'

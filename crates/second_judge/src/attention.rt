@@ -8,7 +8,7 @@ use crate::{limits, lines, numbers, phase, trying};
 
 // What a tick of a command recording leads to. "Phases as in document 01, but without 23 and end mark": no byte has an
 // end mark here, so that C never leads to E.
-pub fn command(valid_least: u32, phase: u32, offset: u32, lines: u32, before: u32, bits: u32) -> u32
+pub fn command(phase: u32, offset: u32, lines: u32, before: u32, bits: u32) -> u32
     requires { Among (the_end ∷ standing Entry.Command) phase }
     ensures { Among (ending ++ leading Entry.Command) result × (Among ending result → lines % 2 ≡ 0)
         × (phase ≡ the_end → result ≡ stay → lines % 2 ≡ 0) }
@@ -20,16 +20,7 @@ pub fn command(valid_least: u32, phase: u32, offset: u32, lines: u32, before: u3
     if attention == 0 {
         return released(phase, lines / 2 % 4, offset, bits);
     }
-    trying::by_rows(
-        Entry::Command,
-        valid_least,
-        phase,
-        offset,
-        lines,
-        before,
-        bits,
-        false,
-    )
+    trying::by_rows(Entry::Command, phase, offset, lines, before, bits, false)
 }
 
 // "The finish is the first tick with ATN released; it must show (1,1), in B or in a carried handover, 100 or more ticks

@@ -14,11 +14,11 @@ pub fn set_up(pulled: u32, steady: bool) -> u32
     }
 }
 
-// Valid: "CLK pulled after fewer than 20 valid ticks (003): 32", with #104 fewer than the profile's least. Otherwise
-// the next set-up begins, or after bit 8 the handover. "A 201st valid tick (H): 34" is the limit on staying.
+// Valid: "CLK pulled after fewer than 20 valid ticks (003): 32." Otherwise the next set-up begins, or after bit 8 the
+// handover. "A 201st valid tick (H): 34" is the limit on staying.
 // A choice: a 201st tick with CLK released and DATA changed is 33, its row standing before that of 34; a tick with CLK
 // pulled is no valid tick, so that DATA may change in it, and it may follow 200 valid ones.
-pub fn valid(valid_least: u32, pulled: u32, steady: bool, offset: u32, bits: u32) -> u32
+pub fn valid(pulled: u32, steady: bool, offset: u32, bits: u32) -> u32
     ensures { Among leading-both result }
 {
     let after_bit = rows::by_limit(
@@ -27,7 +27,12 @@ pub fn valid(valid_least: u32, pulled: u32, steady: bool, offset: u32, bits: u32
         phase::SET_UP,
         handover::first(pulled, steady),
     );
-    let clock_pulled = rows::by_limit(offset, valid_least, numbers::VALID_TIME_SHORT, after_bit);
+    let clock_pulled = rows::by_limit(
+        offset,
+        limits::VALID_LEAST,
+        numbers::VALID_TIME_SHORT,
+        after_bit,
+    );
     match pulled {
         lines::CLOCK => clock_pulled,
         lines::BOTH => clock_pulled,

@@ -1,6 +1,5 @@
-// A second judge of bus recordings, made from document 01 ("What is required and the exact rules") and the requests
-// #101 ("Command transfers"), #103 ("Recorder overruns") and #104 ("Listening computers with a video chip") of document
-// 02 alone.
+// A second judge of bus recordings, made from document 01 ("What is required and the exact rules") and the requests #101
+// ("Command transfers") and #103 ("Recorder overruns") of document 02 alone.
 // It goes by steps and durations: in each step the first tick is tried against the rows of the phase, and of the ticks
 // after it, which show the same lines, only the limit of the phase is asked. "A choice" marks the places where a
 // document was read in one of several ways.
@@ -19,7 +18,6 @@ mod numbers;
 mod patience;
 mod phase;
 mod place;
-mod profile;
 mod reading;
 mod refusals;
 mod rows;
@@ -41,36 +39,30 @@ pub struct Finding {
 // A refusal or a verdict of document 01. "Every refusal has tick 0 and count 0, .. and no lent byte or number changes":
 // of the lent memory it takes the lengths alone. A cut has the total of ticks and the number of steps, every other
 // verdict less of both, and a recording is complete only if its last step leaves the lines at rest. Document 02's #103:
-// 40 is given at the first marked step unless another verdict falls before it. #104: "The caller of either entry names
-// a profile, 0 for today's rules or 1 with 60 in place of 20; another number is refused as 12". Only such a number is,
-// and no verdict is given for it. What the lent memory holds beyond the count's places stays.
-pub fn judge_by_steps(file: &[u8], profile: u32, bytes: &mut [u8], ledger: &mut [u32]) -> Finding
-    ensures { Answered Entry.Plain profile result file.now bytes.old bytes.new
+// 40 is given at the first marked step unless another verdict falls before it. What the lent memory holds beyond the
+// count's places stays.
+pub fn judge_by_steps(file: &[u8], bytes: &mut [u8], ledger: &mut [u32]) -> Finding
+    ensures { Answered Entry.Plain result file.now bytes.old bytes.new
         ledger.old ledger.new }
 {
-    judge(Entry::Plain, file, profile, bytes, ledger)
+    judge(Entry::Plain, file, bytes, ledger)
 }
 
 // The same of a command recording, document 02's #101, with its own verdicts; complete only if its last step leaves ATN
 // released.
-pub fn judge_command_by_steps(
-    file: &[u8],
-    profile: u32,
-    bytes: &mut [u8],
-    ledger: &mut [u32],
-) -> Finding
-    ensures { Answered Entry.Command profile result file.now bytes.old bytes.new
+pub fn judge_command_by_steps(file: &[u8], bytes: &mut [u8], ledger: &mut [u32]) -> Finding
+    ensures { Answered Entry.Command result file.now bytes.old bytes.new
         ledger.old ledger.new }
 {
-    judge(Entry::Command, file, profile, bytes, ledger)
+    judge(Entry::Command, file, bytes, ledger)
 }
 
 // The refusals are tested first, "in this order", with either entry.
-fn judge(entry: Entry, file: &[u8], profile: u32, bytes: &mut [u8], ledger: &mut [u32]) -> Finding
-    ensures { Answered entry profile result file.now bytes.old bytes.new
+fn judge(entry: Entry, file: &[u8], bytes: &mut [u8], ledger: &mut [u32]) -> Finding
+    ensures { Answered entry result file.now bytes.old bytes.new
         ledger.old ledger.new }
 {
-    let tested = refusals::test(file, profile, bytes.len(), ledger.len());
+    let tested = refusals::test(file, bytes.len(), ledger.len());
     if tested.number != numbers::NONE {
         return Finding {
             number: tested.number,
@@ -79,6 +71,5 @@ fn judge(entry: Entry, file: &[u8], profile: u32, bytes: &mut [u8], ledger: &mut
             count: 0,
         };
     }
-    let valid_least = limits::valid_least(profile);
-    reading::read_steps(entry, valid_least, file, tested.steps, bytes, ledger)
+    reading::read_steps(entry, file, tested.steps, bytes, ledger)
 }

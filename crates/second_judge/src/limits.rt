@@ -1,7 +1,4 @@
 // "Each house time has one name, used wherever the time is meant." Ticks of 1 microsecond; H marks house limits.
-ghost use Rattle.second_judge.specs.Numbers.{Profile};
-
-use crate::profile;
 
 // A: "(1,0): stay; at offset 256 it is 24 instead".
 pub const NO_RECEIVER_AT: u32 = 256;
@@ -36,21 +33,8 @@ pub const SET_UP_MOST: u32 = 200;
 // Valid: "A 201st valid tick (H): 34".
 pub const VALID_MOST: u32 = 200;
 
-// Valid: "CLK pulled after fewer than 20 valid ticks (003): 32". #104: "Source 003 asks 60 µs of valid time here."
-const VALID_LEAST_TODAY: u32 = 20;
-
-const VALID_LEAST_VIDEO_CHIP: u32 = 60;
-
-// #104's "minimum": the least valid time of a profile.
-pub fn valid_least(profile: u32) -> u32
-    requires { Profile profile }
-{
-    if profile == profile::TODAY {
-        VALID_LEAST_TODAY
-    } else {
-        VALID_LEAST_VIDEO_CHIP
-    }
-}
+// Valid: "CLK pulled after fewer than 20 valid ticks (003): 32".
+pub const VALID_LEAST: u32 = 20;
 
 // Handover, open: "(1,0) stays; at offset 1,000 it is 35".
 pub const RECEIVER_TIME_OUT: u32 = 1000;

@@ -22,9 +22,6 @@ pub const TOTAL_TICKS: u32 = 8;
 
 pub const TOO_FEW_PLACES: u32 = 9;
 
-// The refusal of document 02's #104: a profile that is neither 0 nor 1, "another number is refused as 12".
-pub const OTHER_PROFILE: u32 = 12;
-
 // Verdicts.
 pub const COMPLETE: u32 = 20;
 

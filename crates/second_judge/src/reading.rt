@@ -11,11 +11,9 @@ use crate::{Finding, byte, layout, next, numbers, patience, phase, place, storin
 
 // Lines that stay as they are can turn the reading only in their first tick, so that the later ticks of a step are
 // asked for the phase's limit alone. That a step goes on with the lines of the one before changes nothing, unless it is
-// marked: its first tick then is one more tick that stays. `before` has the lines of the tick before; `valid_least` is
-// the profile's (#104).
+// marked: its first tick then is one more tick that stays. `before` has the lines of the tick before.
 pub fn read_steps(
     entry: Entry,
-    valid_least: u32,
     file: &[u8],
     steps: u32,
     bytes: &mut [u8],
@@ -37,7 +35,8 @@ pub fn read_steps(
             return overrun(tick, step, count);
         }
         let end = tick + read.duration;
-        let next = next::next(entry, valid_least, place, tick, read.lines, before, byte);
+        let offset = tick - place.since;
+        let next = next::next(entry, place.phase, offset, read.lines, before, byte);
         count = storing::hand_over(next, byte.value, place, count, bytes, ledger);
         byte = byte::after(byte, next, read.lines);
         place = place::after(place, next, tick, step);
@@ -52,8 +51,8 @@ pub fn read_steps(
     ran_out(place, tick, steps, count)
 }
 
-// #103: "The first tick of a marked step gives verdict 40, before ATN is looked at, also in E, at tick 0 and after
-// #101's finish."
+// #103: "The first tick of a marked step gives verdict 40, before ATN is looked at, also in E, at tick 0 and after #101's
+// finish."
 // A choice: so before the phase's rows and limits too, and a byte that this tick would have handed over is not.
 fn overrun(tick: u32, step: u32, count: u32) -> Finding
     ensures { (result.number ≡ 40) × (result.tick ≡ tick) × (result.step ≡ step) × (result.count ≡ count) }

@@ -1,10 +1,10 @@
-// "Refusals, tested in this order": the rows of the table, and #104's among them. The steps' rows are in testing.
+// "Refusals, tested in this order": the header's and the lent memory's rows of the table.
 ghost use mathlib.Core.{List.◌∷◌, Path.◌≡◌};
 ghost use Rattle.std.specs.Prelude.{◌+◌, ◌*◌, ◌≤◌, ◌<◌};
-ghost use Rattle.second_judge.specs.Numbers.{Among, file-refusals, Profile, refusals};
+ghost use Rattle.second_judge.specs.Numbers.{Among, refusals};
 ghost use Rattle.second_judge.specs.Recording.{Passed};
 
-use crate::{layout, numbers, profile, testing};
+use crate::{layout, numbers, testing};
 
 // "byte buffer under 1,000 places, or ledger under 2,000".
 const BYTE_PLACES: usize = 1000;
@@ -21,8 +21,8 @@ pub struct Tested {
 
 // "Its step is the offending one for 6 and 7 and otherwise 0". Nothing is to be read.
 pub fn refused(number: u32, step: u32) -> Tested
-    requires { Among (0 ∷ file-refusals) number }
-    ensures { (result.number ≡ number) × Among (0 ∷ file-refusals) result.number }
+    requires { Among (0 ∷ refusals) number }
+    ensures { (result.number ≡ number) × Among (0 ∷ refusals) result.number }
 {
     Tested {
         number,
@@ -31,26 +31,9 @@ pub fn refused(number: u32, step: u32) -> Tested
     }
 }
 
-// First what the file is refused for, and then what the caller is.
-pub fn test(file: &[u8], profile: u32, byte_places: usize, ledger_places: usize) -> Tested
-    ensures { Among (0 ∷ refusals) result.number
-        × (result.number ≡ 0 → Passed file.now result.steps × Profile profile)
-        × (result.number ≡ 12 → Profile profile → ⊥) × (result.number ≡ 9 → Profile profile) }
-{
-    let tested = test_file(file);
-    if tested.number != numbers::NONE {
-        return tested;
-    }
-    Tested {
-        number: caller_refusal(profile, byte_places, ledger_places),
-        step: 0,
-        steps: tested.steps,
-    }
-}
-
-// Rows 1 to 8 of the table.
-fn test_file(file: &[u8]) -> Tested
-    ensures { Among (0 ∷ file-refusals) result.number × (result.number ≡ 0 → Passed file.now result.steps) }
+// Row 1 of the table, and then the others.
+pub fn test(file: &[u8], byte_places: usize, ledger_places: usize) -> Tested
+    ensures { Among (0 ∷ refusals) result.number × (result.number ≡ 0 → Passed file.now result.steps) }
 {
     if file.len() < layout::HEADER_BYTES {
         return refused(numbers::FEWER_THAN_16_BYTES, 0);
@@ -63,18 +46,13 @@ fn test_file(file: &[u8]) -> Tested
     if number != numbers::NONE {
         return refused(number, 0);
     }
-    testing::test_steps(file, steps)
+    testing::test_steps(file, steps, room_refusal(byte_places, ledger_places))
 }
 
-// For the profile that the caller names, and row 9, for the places that the caller lends. #104: "another number", one
-// above 1, "is refused as 12, after 8 and before 9."
-fn caller_refusal(profile: u32, byte_places: usize, ledger_places: usize) -> u32
-    ensures { Among (0 ∷ refusals) result × (result ≡ 0 → Profile profile)
-        × (result ≡ 12 → Profile profile → ⊥) × (result ≡ 9 → Profile profile) }
+// Row 9.
+fn room_refusal(byte_places: usize, ledger_places: usize) -> u32
+    ensures { Among (0 ∷ refusals) result }
 {
-    if profile::VIDEO_CHIP < profile {
-        return numbers::OTHER_PROFILE;
-    }
     if byte_places < BYTE_PLACES {
         return numbers::TOO_FEW_PLACES;
     }
@@ -88,7 +66,7 @@ fn caller_refusal(profile: u32, byte_places: usize, ledger_places: usize) -> u32
 // Rows 2 to 5.
 fn header_refusal(version: u32, steps: u32, offset: u32, length: u32, true_length: usize) -> u32
     requires { steps < 65536 }
-    ensures { Among (0 ∷ file-refusals) result × (result ≡ 0 → (steps ≤ 16000) × (16 + 4 * steps ≤ true_length)) }
+    ensures { Among (0 ∷ refusals) result × (result ≡ 0 → (steps ≤ 16000) × (16 + 4 * steps ≤ true_length)) }
 {
     if version != layout::VERSION {
         return numbers::VERSION;

@@ -10,7 +10,6 @@ use crate::{bits, handover, phase, rows};
 // show the same. To E a tick leads only with (0,0) and after an end mark, and on in E only with (0,0).
 pub fn by_rows(
     entry: Entry,
-    valid_least: u32,
     phase: u32,
     offset: u32,
     lines: u32,
@@ -32,7 +31,7 @@ pub fn by_rows(
         phase::ACKNOWLEDGEMENT => rows::acknowledgement(pulled, offset),
         phase::ACKNOWLEDGED => rows::acknowledged(pulled, offset),
         phase::SET_UP => bits::set_up(pulled, steady),
-        phase::VALID => bits::valid(valid_least, pulled, steady, offset, bits),
+        phase::VALID => bits::valid(pulled, steady, offset, bits),
         phase::CARRIED => handover::carried(pulled, offset),
         phase::OPEN => handover::open(pulled),
         _ => rows::end(pulled),

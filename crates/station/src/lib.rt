@@ -2,7 +2,7 @@
 ghost use Rattle.answer.specs.Basics.{◌≡◌};
 ghost use Rattle.answer.specs.Names.{word_of, Spells};
 ghost use Rattle.command.specs.{Classes.class_of, Classes.class_number, Words.class_word};
-ghost use Rattle.transfer.specs.{Types.Plain, Types.Command, Profiles.limits_of};
+ghost use Rattle.transfer.specs.Limits.{command_limits, standard_limits};
 ghost use Rattle.judge.specs.Judged as Judged;
 ghost use Rattle.judge.specs.Promise.{JudgePromise};
 ghost use Rattle.writer.specs.{Card.standard_card, Promise.WritePromise};
@@ -33,38 +33,32 @@ fn cross(answer: Answer) -> StationAnswer
     }
 }
 
-// Judges one data transfer. What `judge` promises, of the answer that crosses. A profile has 32 bits here too: no number becomes another.
+// Judges one data transfer. What `judge` promises, of the answer that crosses.
 #[unsafe(no_mangle)]
-pub extern "C" fn station_judge(
-    file: &[u8],
-    profile: u32,
-    bytes: &mut [u8],
-    ledger: &mut [u32],
-) -> StationAnswer
-    ensures { JudgePromise (limits_of Plain profile) file.now bytes.old ledger.old
+pub extern "C" fn station_judge(file: &[u8], bytes: &mut [u8], ledger: &mut [u32]) -> StationAnswer
+    ensures { JudgePromise standard_limits file.now bytes.old ledger.old
         (Judged.leaves (answer_of result) bytes.new ledger.new) }
 {
-    cross(judge::judge(file, profile, bytes, ledger))
+    cross(judge::judge(file, bytes, ledger))
 }
 
 // Judges one command transfer. What `judge_command` promises, of the answer that crosses.
 #[unsafe(no_mangle)]
 pub extern "C" fn station_judge_command(
     file: &[u8],
-    profile: u32,
     bytes: &mut [u8],
     ledger: &mut [u32],
 ) -> StationAnswer
-    ensures { JudgePromise (limits_of Command profile) file.now bytes.old ledger.old
+    ensures { JudgePromise command_limits file.now bytes.old ledger.old
         (Judged.leaves (answer_of result) bytes.new ledger.new) }
 {
-    cross(judge::judge_command(file, profile, bytes, ledger))
+    cross(judge::judge_command(file, bytes, ledger))
 }
 
 // Writes the sample recording of the bytes. What `write` promises, of the answer that crosses.
 #[unsafe(no_mangle)]
 pub extern "C" fn station_write(bytes: &[u8], destination: &mut [u8]) -> StationAnswer
-    ensures { WritePromise standard_card bytes.now destination.old
+    ensures { WritePromise standard_limits standard_card bytes.now destination.old
         (Written.leaves (answer_of result) destination.new) }
 {
     cross(writer::write(bytes, destination))

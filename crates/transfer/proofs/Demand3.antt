@@ -1,17 +1,18 @@
--- Demand 3 over tick lists, for all times that are consistent. Assumes nothing.
+-- Demand 3 over tick lists, for all times that are consistent, and at document 01's own. Assumes nothing.
 use Rattle.answer.specs.Basics.{ℕ, Bool, false, ◌||◌, List, [], ◌∷◌, map, ◌≡◌}
+use native.Mathlib.Omega.{arith}
 use mathlib.Core.Path.{refl, sym, ap, ap₂, ◌∙◌, subst, subst⁻¹}
-use Rattle.transfer.specs.{Outcome.run, Outcome.outcome}
+use Rattle.transfer.specs.{Limits.standard_limits, Limits.command_limits, Outcome.run, Outcome.outcome}
 use Rattle.transfer.specs.Parties.{Pulls, pulls, past, attention, track}
 use Rattle.transfer.specs.{Shown.shown, Ticks.tick, Ticks.lines_in, Ticks.Unmarked}
 use Rattle.transfer.specs.Pair.{SenderPulls, sender_pulls, receiver_pulls, attention_track, gives, values, SameOrLater}
 use Rattle.transfer.specs.Demand3.{Consistent, CompleteWith, shown_sender, shown_receiver, Explains, Explained, OutcomeDemand3}
-use Rattle.transfer.specs.Demand3.{Demand3Law}
+use Rattle.transfer.specs.Demand3.{Demand3Law, StandardDemand3, CommandDemand3, CommandsConsistent}
 use Rattle.transfer.specs.Types.{Limits, Tick, Byte, Start}
 use Rattle.answer.specs.Types.{Complete}
 use Rattle.transfer.proofs.{Rows.lines, Rows.going_on, Forward.shows, Forward.CompleteBy, Forward.along, Backward.Planned}
 use Rattle.transfer.proofs.{Backward.back}
-use Rattle.transfer.proofs.{Shown.bare, Shown.seen, Shown.shows_plan}
+use Rattle.transfer.proofs.{Stages.plain_is_no_command, Shown.bare, Shown.seen, Shown.shows_plan}
 
 pub gives_shows : (L : Limits) (js : List Pulls)
     → gives (map (attention L.entry) js) (map sender_pulls js) (map receiver_pulls js) ≡ seen L js
@@ -127,3 +128,45 @@ module _ (L : Limits) (times : Consistent L) (w : List Tick) where
 
 pub demand3 : Demand3Law
 demand3 L times w = explains_all L times w
+
+pub standard_consistent : Consistent standard_limits
+standard_consistent =
+    record {
+      end_mark = omega arith;
+      end_mark_in_time = omega arith;
+      no_end_mark = λ command. absurd (plain_is_no_command command);
+      ready_for_data = omega arith;
+      acknowledge_some = omega arith;
+      acknowledge_room = omega arith;
+      timeout = omega arith;
+      set-up_some = omega arith;
+      valid_some = omega arith;
+      valid_room = omega arith;
+      keep_some = omega arith;
+      keep_take = omega arith;
+      keep_release = omega arith;
+    }
+
+pub standard_demand3 : StandardDemand3
+standard_demand3 w = demand3 standard_limits standard_consistent w
+
+pub commands_consistent : CommandsConsistent
+commands_consistent L t =
+    record {
+      end_mark = t.end_mark;
+      end_mark_in_time = omega (arith, t.end_mark);
+      no_end_mark = λ command. omega (arith, t.end_mark);
+      ready_for_data = omega (arith, t.end_mark);
+      acknowledge_some = t.acknowledge_some;
+      acknowledge_room = t.acknowledge_room;
+      timeout = omega (arith, t.end_mark_in_time, t.timeout);
+      set-up_some = t.set-up_some;
+      valid_some = t.valid_some;
+      valid_room = t.valid_room;
+      keep_some = t.keep_some;
+      keep_take = t.keep_take;
+      keep_release = t.keep_release;
+    }
+
+pub command_demand3 : CommandDemand3
+command_demand3 w = demand3 command_limits (commands_consistent standard_limits standard_consistent) w

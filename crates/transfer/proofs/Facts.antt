@@ -18,7 +18,7 @@ use Rattle.transfer.specs.Facts.{AllBytes, SomeBytes, PairSendsBytes, S1Explaine
 use Rattle.transfer.specs.Facts.{plan80, Explains80, byte80, TwoPairs, ListenExplained, command80, receiver_after, sender_after}
 use Rattle.transfer.specs.Facts.{FreeAfterFinish, NeverBoth}
 use Rattle.answer.specs.Types.{Attention, AttentionReleased, Verdict, Complete, Cut, Broken}
-use Rattle.transfer.proofs.{Rows.lines, Demand3.demand3, Profiles.todays_consistent}
+use Rattle.transfer.proofs.{Rows.lines, Demand3.standard_demand3, Demand3.command_demand3}
 
 -- A pair is for a string of one or more bytes, each below 256.
 sends_one : (now : ℕ) (s : Sending) → 1 ≤ length (values (sending_bytes now s))
@@ -57,7 +57,7 @@ unfolding below up_to next same with_bit handover after_bit move run
 s1_complete = record { verdict = refl; bytes = refl }
 
 pub s1_explained : S1Explained
-s1_explained = (((demand3 standard_limits (todays_consistent Plain) (ticks s1)).exactly (0x41 ∷ [])).0 s1_complete).0
+s1_explained = (((standard_demand3 (ticks s1)).exactly (0x41 ∷ [])).0 s1_complete).0
 
 -- The same lines, with ticks lost.
 pub lost_though_explained : LostThoughExplained
@@ -124,9 +124,7 @@ unfolding below up_to next same with_bit handover after_bit finishing move run
 listen_complete = record { verdict = refl; bytes = refl }
 
 pub listen_explained : ListenExplained
-listen_explained =
-    (((demand3 command_limits (todays_consistent Command) (ticks (listen 200 ++ (1 ∶ 6 ∷ 9 ∶ 4 ∷ [])))).exactly (0x28 ∷ 0x6F ∷ [])).0
-    listen_complete).0
+listen_explained = (((command_demand3 (ticks (listen 200 ++ (1 ∶ 6 ∷ 9 ∶ 4 ∷ [])))).exactly (0x28 ∷ 0x6F ∷ [])).0 listen_complete).0
 
 -- Both tracks are free after the finish.
 command80_keeps : (after : Free) → PlanRules command_limits (command80 after)

@@ -13,7 +13,5 @@ pub mod Plans
 pub mod Backward
 pub mod Shown
 pub mod Demand3
-pub mod Profiles
-pub mod Wider
 pub mod Facts
 pub mod Attention

@@ -1,7 +1,7 @@
 -- Demand 3 over tick lists.
 use Rattle.answer.specs.Basics.{ℕ, suc, ◌+◌, ◌≤◌, ◌<◌, Bool, List, map, ◌≡◌, ◌↔◌}
-use Rattle.transfer.specs.{Types.Command, Types.Limits, Types.Lines, Types.Tick, Types.Byte, Outcome.outcome, Shown.shown}
-use Rattle.transfer.specs.{Ticks.lines_in, Ticks.Unmarked}
+use Rattle.transfer.specs.{Types.Command, Types.Limits, Types.Lines, Types.Tick, Types.Byte, Limits.standard_limits}
+use Rattle.transfer.specs.{Limits.for_commands, Limits.command_limits, Outcome.outcome, Shown.shown, Ticks.lines_in, Ticks.Unmarked}
 use Rattle.transfer.specs.Pair.{SenderPulls, sender_pulls, receiver_pulls, attention_track, gives, values, Pair, SameOrLater}
 use Rattle.answer.specs.Types.{Complete}
 
@@ -75,6 +75,16 @@ module _ (L : Limits) (w : List Tick) where
   OutcomeDemand3 =
       Demand3 L (lines_in w) (Unmarked w) ((outcome L w).decision.verdict ≡ Complete) CompleteWith (λ string. (outcome L w).bytes)
 
--- For every tick list and all times that are consistent, of either entry.
+-- For every tick list and all times that are consistent, of either entry; and at document 01's own, for data and for commands.
 abbrev pub Demand3Law : Type 0
 Demand3Law = (L : Limits) → Consistent L → (w : List Tick) → OutcomeDemand3 L w
+
+abbrev pub StandardDemand3 : Type 0
+StandardDemand3 = (w : List Tick) → OutcomeDemand3 standard_limits w
+
+abbrev pub CommandDemand3 : Type 0
+CommandDemand3 = (w : List Tick) → OutcomeDemand3 command_limits w
+
+-- Times that are consistent are so for commands too.
+abbrev pub CommandsConsistent : Type 0
+CommandsConsistent = (L : Limits) → Consistent L → Consistent (for_commands L)

@@ -12,7 +12,6 @@ pub mod Rules
 pub mod Pair
 pub mod Shown
 pub mod Demand3
-pub mod Profiles
 pub mod Lost
 pub mod Room
 pub mod Facts

@@ -1,7 +1,7 @@
 -- The times of document 01: "each house time has one name, used wherever the time is meant". H marks a house limit, 000 and 003
 -- the source that gives the others, also where document 01's row does not name it.
-use Rattle.answer.specs.Basics.{ℕ, ◌-◌}
-use Rattle.transfer.specs.Types.{Entry, Limits, Plain, Command}
+use Rattle.answer.specs.Basics.{◌-◌}
+use Rattle.transfer.specs.Types.{Limits, Plain, Command}
 
 abbrev pub standard_limits : Limits
 standard_limits =
@@ -22,34 +22,26 @@ standard_limits =
       take_latest = 1000;  -- Handover: the last offset at which the receiver takes (000)
     }
 
--- What an entry or a profile changes of the limits; every other time stays.
-abbrev changed : Entry → (end-mark-latest valid_least : ℕ) → Limits → Limits
-changed entry end-mark-latest valid_least L =
+-- #101: the same times for commands. They are judged "without .. end mark: in D, (0,0) at offset 199 gives 38", so that D lasts no
+-- longer than a byte may begin.
+abbrev pub for_commands : Limits → Limits
+for_commands L =
     record {
-      entry = entry;
+      entry = Command;
       presence = L.presence;
       between_bytes = L.between_bytes;
       end_mark = L.end_mark;
-      end_mark_latest = end-mark-latest;
+      end_mark_latest = L.end_mark - 1;
       acknowledge_least = L.acknowledge_least;
       acknowledge_most = L.acknowledge_most;
       response = L.response;
       sender_timeout = L.sender_timeout;
       set_up_most = L.set_up_most;
-      valid_least = valid_least;
+      valid_least = L.valid_least;
       valid_most = L.valid_most;
       keep_most = L.keep_most;
       take_latest = L.take_latest;
     }
 
--- #101: the same times for commands. They are judged "without .. end mark: in D, (0,0) at offset 199 gives 38", so that D lasts no
--- longer than a byte may begin.
-abbrev pub for_commands : Limits → Limits
-for_commands L = changed Command (L.end_mark - 1) L.valid_least L
-
 abbrev pub command_limits : Limits
 command_limits = for_commands standard_limits
-
--- #104: the same limits with another least valid time.
-abbrev pub with_valid_least : (ticks : ℕ) → Limits → Limits
-with_valid_least ticks L = changed L.entry L.end_mark_latest ticks L

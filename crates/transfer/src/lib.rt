@@ -3,12 +3,10 @@ mod decision;
 mod limits;
 mod lines;
 mod phase;
-mod profile;
 mod tick;
 
 pub use crate::decision::Decision;
 pub use crate::limits::{Entry, Limits};
 pub use crate::lines::Lines;
 pub use crate::phase::{Byte, Phase};
-pub use crate::profile::Chosen;
 pub use crate::tick::Tick;

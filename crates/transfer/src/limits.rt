@@ -49,8 +49,6 @@ impl Limits {
     pub const SET_UP_MOST: u32 = 200;
     // The fewest valid ticks of a bit (003).
     pub const VALID_LEAST: u32 = 20;
-    // The same for a listening computer whose video chip may interrupt it for 42 µs at a time (003).
-    pub const VIDEO_CHIP_VALID_LEAST: u32 = 60;
     // The most valid ticks of a bit (H).
     pub const VALID_MOST: u32 = 200;
     // The last offset after bit 8 at which the sender may let go of DATA (H).
@@ -59,7 +57,7 @@ impl Limits {
     pub const TAKE_LATEST: u32 = 1000;
 
     // Document 01's own times, for a data transfer.
-    pub(crate) fn standard() -> Limits
+    pub fn standard() -> Limits
         ensures { result ≡ standard_limits }
     {
         Limits {
@@ -81,7 +79,7 @@ impl Limits {
     }
 
     // The same times for commands. They have no end mark: D lasts no longer than a byte may begin.
-    pub(crate) fn command() -> Limits
+    pub fn command() -> Limits
         ensures { result ≡ command_limits }
     {
         let standard = Limits::standard();

@@ -5,5 +5,6 @@ mod FillLaws
 mod TextLaws
 mod LineLaws
 mod ReadingLaws
+mod NumberLaws
 mod LongState
 mod LongExpected

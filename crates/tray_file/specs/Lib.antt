@@ -2,4 +2,5 @@
 pub mod State
 pub mod Reading
 pub mod LongFiles
+pub mod SeatNumber
 pub mod Steps

@@ -3,10 +3,11 @@ use crate::arguments::{SEAT, STATE};
 use crate::changes::{load, remove};
 use crate::lending::looked;
 use crate::lines::{print, print_counts, print_failure, print_not_a_tray};
+use crate::numbers::is_number;
 use crate::posting::post;
 use crate::reading::read_state;
 use crate::show::print_grid;
-use files::{is_number, read_source};
+use files::read_source;
 use tray::{SEATS, Seat};
 
 #[derive(Drop)]

@@ -9,9 +9,6 @@ use files::{print_answer, read_source};
 use libc::STDOUT_FILENO;
 use tray::{SEATS, Seat, SeatState};
 
-// A post is judged by today's rules.
-const PROFILE: u32 = 0;
-
 // As in judge_file, the room is longer than any recording, and a longer file is judged by its beginning as it is by the whole of it.
 pub fn post(seats: [Seat; SEATS], seat: &[u8], state: &[u8]) -> bool {
     let mut name = io::buffer();
@@ -57,7 +54,7 @@ fn post_judged(
 ) -> bool {
     let mut bytes = [0u8; 1000];
     let mut ledger = [0u32; 2000];
-    let answer = judge::judge(file, PROFILE, &mut bytes, &mut ledger);
+    let answer = judge::judge(file, &mut bytes, &mut ledger);
     let number = seat_number(seat);
     let kept = posted(seats, number, answer, &bytes, expected);
     let after = kept.seats;

@@ -1,18 +1,16 @@
 -- Read-back over tick lists: a pair for the string gives the ticks that are put down, so that the judge finds them complete with it; and
 -- what the judge finds where no byte was given. Assumes nothing.
-use Rattle.answer.specs.Basics.{ℕ, ◌≤◌, List, [], ◌∷◌, ◌≡◌}
+use Rattle.answer.specs.Basics.{ℕ, List, [], ◌∷◌, ◌≡◌}
 use mathlib.Core.Path.{refl, ap, subst, ◌∙◌}
-use native.Mathlib.Omega.{arith}
 use borrow.Author.Rules.{rules}
 use Rattle.recording.specs.{GoodForm.Bytes, Ticks.ticks}
-use Rattle.transfer.specs.{Types.Entry, Types.Plain, Types.Limits, Types.Tick, Limits.standard_limits, Limits.with_valid_least, Moves.move}
-use Rattle.transfer.specs.{Moves.broken_at, Outcome.run}
+use Rattle.transfer.specs.{Types.Entry, Types.Limits, Types.Tick, Limits.standard_limits, Moves.move, Moves.broken_at, Outcome.run}
 use Rattle.transfer.specs.{Outcome.outcome, Ticks.lines_in, Ticks.Unmarked}
 use Rattle.transfer.specs.{Parties.track, Parties.plan_bytes, Pair.sender_track, Pair.receiver_track, Pair.attention_track, Pair.gives}
 use Rattle.transfer.specs.{Demand3.CompleteWith, Demand3.Explained}
 use Rattle.transfer.specs.Phases.{below, up_to, next, same, with_bit, handover, after_bit}
 use Rattle.answer.specs.Types.{EmptyStream}
-use Rattle.transfer.proofs.{Demand3.gives_shows, Demand3.shows_unmarked, Profiles.valid_demand3}
+use Rattle.transfer.proofs.Demand3.{gives_shows, shows_unmarked, standard_demand3}
 use Rattle.judge.specs.Judged.{ticks_shown}
 use Rattle.writer.specs.{Card.standard_card, WrittenSteps.written_steps}
 use Rattle.writer.specs.declared.card.Card.{Card}
@@ -58,21 +56,20 @@ module _ (first : ℕ) (others : List ℕ) (bytes : Bytes (first ∷ others)) wh
       subst Unmarked (gives_sent card in_time.set-up first others).same
       (shows_unmarked standard_limits (track (plan_of card first others)))
 
-  -- So it is with document 01's card and times, and with any least valid time up to the card's own.
-  module _ (least : ℕ) (some : 1 ≤ least) (in-card : least ≤ 60) where
-    in_time : InTime (with_valid_least least standard_limits) standard_card
-    in_time = search rules
+  -- So it is with document 01's card and times: they are in time.
+  in_time : InTime standard_limits standard_card
+  in_time = search rules
 
-    -- By demand 3 the judge then finds them complete with the string.
-    pub sent_complete : CompleteWith (with_valid_least least standard_limits) (written_ticks standard_card (first ∷ others)) (first ∷ others)
-    sent_complete =
-        ((valid_demand3 Plain least some (omega arith) (written_ticks standard_card (first ∷ others))).exactly (first ∷ others)).1 (
-          in_time_explained (with_valid_least least standard_limits) standard_card in_time,
-          in_time_unmarked (with_valid_least least standard_limits) standard_card in_time,
-        )
+  pub sent_explained : Explained standard_limits (lines_in (written_ticks standard_card (first ∷ others))) (first ∷ others)
+  sent_explained = in_time_explained standard_limits standard_card in_time
+
+  -- By demand 3 the judge then finds them complete with the string.
+  pub sent_complete : CompleteWith standard_limits (written_ticks standard_card (first ∷ others)) (first ∷ others)
+  sent_complete =
+      ((standard_demand3 (written_ticks standard_card (first ∷ others))).exactly (first ∷ others)).1
+      (sent_explained, in_time_unmarked standard_limits standard_card in_time)
 
 -- No bytes: 21 at tick 762, and none handed over, by one computation.
-pub empty_outcome : (least : ℕ) → outcome (with_valid_least least standard_limits) (written_ticks standard_card [])
-    ≡ record { decision = broken_at EmptyStream 762; bytes = [] }
+pub empty_outcome : outcome standard_limits (written_ticks standard_card []) ≡ record { decision = broken_at EmptyStream 762; bytes = [] }
 unfolding below up_to next same with_bit handover after_bit move run ticks written_steps
-empty_outcome least = refl
+empty_outcome = refl

@@ -9,6 +9,7 @@ use Rattle.answer.specs.Answers.{refused, accepted, ◌over◌, first}
 use Rattle.recording.specs.{Types.Header, Types.Step, GoodForm.Bytes, Layout.file_length, Ticks.total_ticks}
 use Rattle.recording.specs.FileOf.{header_bytes, steps_bytes, good_header, file_of}
 use Rattle.recording.proofs.{SetsLaws.sets-append, FileOfLaws.header_length, FileOfLaws.file_length_lem}
+use Rattle.transfer.specs.Limits.{standard_limits}
 use Rattle.writer.specs.{Card.standard_card, WrittenSteps.written_steps, ReadBack.ReadsBack, ReadBack.Writable, Promise.WritePromise}
 use Rattle.writer.specs.{Put.with_steps}
 use Rattle.writer.specs.Written.{written_ticks, most_bytes, written_step_count, written_length, recording_of, Written, leaves, written}
@@ -57,7 +58,7 @@ module _ (card : Card) (bytes : List ℕ) (d : List ℕ) where
 -- The writer's promise: at a refusal, and where the recording was put down.
 module _ (bytes d : List ℕ) where
   abbrev Promised : Written → Type 0
-  Promised = WritePromise standard_card bytes d
+  Promised = WritePromise standard_limits standard_card bytes d
 
   pub refuses : (w : Written) (refusal : Refusal) → (Writable bytes d → ⊥) → w ≡ leaves (refused refusal 0) d
       → written standard_card bytes d ≡ leaves (refused refusal 0) d → Promised w
@@ -72,7 +73,6 @@ module _ (bytes d : List ℕ) where
       ap (λ (n : ℕ). first n (recording over d)) (sym (counted standard_card bytes).bytes) ∙ take-append_seam recording _ in
       record {
         given = e ∙ sym all;
-        reads_back = λ writable profile known.
-            subst⁻¹ (λ (v : Written). ReadsBack profile (first v.answer.count v.destination) bytes) e
-            (subst⁻¹ (λ (file : List ℕ). ReadsBack profile file bytes) begins (read_back profile known bytes is few));
+        reads_back = λ writable. subst⁻¹ (λ (v : Written). ReadsBack standard_limits (first v.answer.count v.destination) bytes) e
+            (subst⁻¹ (λ (file : List ℕ). ReadsBack standard_limits file bytes) begins (read_back bytes is few));
       }

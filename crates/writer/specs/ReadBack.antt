@@ -2,7 +2,7 @@
 use Rattle.answer.specs.Basics.{ℕ, ◌≤◌, List, [], ◌∷◌, length, ◌≡◌}
 use Rattle.answer.specs.Answers.{◌over◌}
 use Rattle.recording.specs.GoodForm.{Bytes}
-use Rattle.transfer.specs.{Types.Plain, Profiles.limits_of}
+use Rattle.transfer.specs.{Types.Limits, Limits.standard_limits}
 use Rattle.judge.specs.Judged.{Judged, byte_room, ledger_room, judged}
 use Rattle.writer.specs.{Card.standard_card, Written.most_bytes, Written.written_length, Written.recording_of}
 use Rattle.writer.specs.declared.card.Card.{Card}
@@ -18,19 +18,18 @@ pub record ReadAs (string bytes : List ℕ) (j : Judged) : Type 0 where
   pub count : j.answer.count ≡ length string
   pub buffer : j.bytes ≡ string over bytes
 
--- A file is so judged under a profile whenever there is room enough.
-abbrev pub ReadsBack : (profile : ℕ) (file string : List ℕ) → Type 0
-ReadsBack profile file string =
-    (bytes ledger : List ℕ) → byte_room ≤ length bytes → ledger_room ≤ length ledger
-    → ReadAs string bytes (judged (limits_of Plain profile) file bytes ledger)
+-- A file is so judged whenever there is room enough.
+abbrev pub ReadsBack : Limits → (file string : List ℕ) → Type 0
+ReadsBack L file string =
+    (bytes ledger : List ℕ) → byte_room ≤ length bytes → ledger_room ≤ length ledger → ReadAs string bytes (judged L file bytes ledger)
 
--- A card is good under a profile if this holds of the recording of every string of 0 to 799 bytes.
-abbrev pub GoodCard : (profile : ℕ) → Card → Type 0
-GoodCard profile card = (string : List ℕ) → Bytes string → length string ≤ most_bytes → ReadsBack profile (recording_of card string) string
+-- A card is good if this holds of the recording of every string of 0 to 799 bytes.
+abbrev pub GoodCard : Limits → Card → Type 0
+GoodCard L card = (string : List ℕ) → Bytes string → length string ≤ most_bytes → ReadsBack L (recording_of card string) string
 
--- The standard card is good under both profiles: for profile 1 its valid time of 60 is just enough.
+-- The standard card is good under the standard limits.
 abbrev pub ReadBackLaw : Type 0
-ReadBackLaw = (profile : ℕ) → profile ≤ 1 → GoodCard profile standard_card
+ReadBackLaw = GoodCard standard_limits standard_card
 
 -- No refusal that the writer may give is due.
 pub record Writable (bytes destination : List ℕ) : Type 0 where

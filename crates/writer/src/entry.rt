@@ -1,6 +1,7 @@
 // The entry: a recording of given bytes, put down in a lent destination.
 ghost use Rattle.answer.specs.Basics.{◌≤◌, length, ◌≡◌};
 ghost use Rattle.answer.specs.Answers.{◌over◌};
+ghost use Rattle.transfer.specs.Limits.{standard_limits};
 ghost use Rattle.writer.specs.{Card.standard_card, Promise.WritePromise};
 ghost use Rattle.writer.specs.Written.{most_bytes, written_length, recording_of, leaves};
 
@@ -13,10 +14,9 @@ use recording::{Header, Step};
 const MOST_BYTES: usize = 799;
 
 // Writes the sample recording of the bytes. Promised, first: the answer and the destination, whole, are what `written` gives. Second,
-// demand 2: where no refusal is due, what was put down is read back by the judge, with room enough, as these very bytes, under either
-// profile.
+// demand 2: where no refusal is due, what was put down is read back by the judge, with room enough, as these very bytes.
 pub fn write(bytes: &[u8], destination: &mut [u8]) -> Answer
-    ensures { WritePromise standard_card bytes.now destination.old
+    ensures { WritePromise standard_limits standard_card bytes.now destination.old
         (leaves result destination.new) }
 {
     if bytes.len() > MOST_BYTES {

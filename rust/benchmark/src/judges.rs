@@ -2,21 +2,18 @@
 
 use crate::by_ticks;
 use by_steps::Answer;
-use station::{Profile, BYTE_ROOM, LEDGER_ROOM};
+use station::{BYTE_ROOM, LEDGER_ROOM};
 
 pub struct Judge {
     pub name: &'static str,
     pub judge: fn(&[u8], &mut [u8], &mut [u32]) -> Answer,
 }
 
-/// The profile that is asked by, where one is: it has document 01's rules.
-const STANDARD: u32 = Profile::Standard.number();
-
 /// The first is the one that the others are compared with.
 pub const JUDGES: [Judge; 3] = [
     Judge {
         name: "the Rattle judge, through `station`",
-        judge: |file, bytes, ledger| trials::judge(file, STANDARD, bytes, ledger),
+        judge: trials::judge,
     },
     Judge {
         name: "`by_ticks`, plain Rust",
@@ -24,7 +21,7 @@ pub const JUDGES: [Judge; 3] = [
     },
     Judge {
         name: "`by_steps`, plain Rust",
-        judge: |file, bytes, ledger| by_steps::judge(file, STANDARD, bytes, ledger),
+        judge: by_steps::judge,
     },
 ];
 

@@ -5,39 +5,31 @@ use crate::entry::Entry;
 use crate::finish::{after_finish, HandedOverBy};
 use crate::handover::{handover, LedgerTicks};
 use crate::phases::{end, hold, ready_for_data, ready_to_send, start};
-use crate::profile::Profile;
 use crate::reader::{Decision, Reader};
 use crate::recording::{check, Recording};
 use crate::Answer;
 
 /// Judges the recording of a data transfer by document 01, and lost ticks in it
-/// by #103 of document 02. `profile` is #104's: "0 for today's rules or 1 with 60
-/// in place of 20" valid ticks. The bytes handed over and their ticks are written
-/// to `bytes` and `ledger`; nothing else there changes.
-pub fn judge(file: &[u8], profile: u32, bytes: &mut [u8], ledger: &mut [u32]) -> Answer {
-    judge_by(Entry::Plain, file, profile, bytes, ledger)
+/// by #103 of document 02. The bytes handed over and their ticks are written to
+/// `bytes` and `ledger`; nothing else there changes.
+pub fn judge(file: &[u8], bytes: &mut [u8], ledger: &mut [u32]) -> Answer {
+    judge_by(Entry::Plain, file, bytes, ledger)
 }
 
 /// Judges a command recording by #101 of document 02: the same refusals, the
-/// same profiles, the same verdict on lost ticks, the same use of `bytes` and
-/// `ledger`, and the new verdicts 38 and 39.
-pub fn judge_command(file: &[u8], profile: u32, bytes: &mut [u8], ledger: &mut [u32]) -> Answer {
-    judge_by(Entry::Command, file, profile, bytes, ledger)
+/// same verdict on lost ticks, the same use of `bytes` and `ledger`, and the new
+/// verdicts 38 and 39.
+pub fn judge_command(file: &[u8], bytes: &mut [u8], ledger: &mut [u32]) -> Answer {
+    judge_by(Entry::Command, file, bytes, ledger)
 }
 
-fn judge_by(
-    entry: Entry,
-    file: &[u8],
-    profile: u32,
-    bytes: &mut [u8],
-    ledger: &mut [u32],
-) -> Answer {
-    let (recording, profile) = match check(file, profile, bytes.len(), ledger.len()) {
-        Ok(accepted) => accepted,
+fn judge_by(entry: Entry, file: &[u8], bytes: &mut [u8], ledger: &mut [u32]) -> Answer {
+    let recording = match check(file, bytes.len(), ledger.len()) {
+        Ok(recording) => recording,
         Err(refusal) => return refusal,
     };
     let mut lent = Lent::new(bytes, ledger);
-    let (Ok(decision) | Err(decision)) = transfer(entry, profile, &recording, &mut lent);
+    let (Ok(decision) | Err(decision)) = transfer(entry, &recording, &mut lent);
     Answer {
         number: decision.number,
         tick: decision.tick,
@@ -48,12 +40,7 @@ fn judge_by(
 
 /// Reads a transfer from start to end. A byte is handed over on entering C or by
 /// the finish, so one that was taken but held too briefly isn't counted.
-fn transfer(
-    entry: Entry,
-    profile: Profile,
-    recording: &Recording,
-    lent: &mut Lent,
-) -> Result<Decision, Decision> {
+fn transfer(entry: Entry, recording: &Recording, lent: &mut Lent) -> Result<Decision, Decision> {
     let reader = &mut Reader::new(recording, entry)?;
     start(reader)?;
     hold(reader)?;
@@ -64,7 +51,7 @@ fn transfer(
             return Ok(end(reader));
         }
         end_mark = ready_for_data(reader, entry, lent.count == 0)?;
-        let byte = byte(reader, profile)?;
+        let byte = byte(reader)?;
         let handover = handover(reader, byte)?;
         lent.hand_over(byte, handover.ticks);
         if let HandedOverBy::Finish(finish) = handover.by {

@@ -1,7 +1,6 @@
 //! A judge and a writer of recorded data transfers, after document 01, the user's paper.
 //! A second entry judges command recordings, after request #101 of document 02.
-//! Both heed the recorder's marks of lost ticks, after request #103, and go by
-//! the profile that their caller names, after request #104.
+//! Both heed the recorder's marks of lost ticks, after request #103.
 //!
 //! The judge goes by steps and durations: what it does is bounded by the number
 //! of steps, however many ticks they last. It rests on one fact about "The
@@ -22,7 +21,6 @@ mod judge;
 mod limits;
 mod numbers;
 mod phases;
-mod profile;
 mod reader;
 pub mod recording;
 mod step;

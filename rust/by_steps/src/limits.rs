@@ -1,6 +1,5 @@
-//! The times of "The judge's phases" and of the requests #101 and #104, in ticks.
-//! "Each house time has one name, used wherever the time is meant": two times of
-//! equal length are two names.
+//! The times of "The judge's phases" and of request #101, in ticks. "Each house time has one name,
+//! used wherever the time is meant": two times of equal length are two names.
 
 /// A: (1,0) at this offset is 24.
 pub const RECEIVER_WAIT: u32 = 256;
@@ -35,11 +34,8 @@ pub const SENDER_WAIT: u32 = 512;
 /// Bits: the most ticks of a set-up.
 pub const SET_UP_MOST: u32 = 200;
 
-/// Bits: the fewest valid ticks by today's rules.
+/// Bits: the fewest valid ticks.
 pub const VALID_LEAST: u32 = 20;
-
-/// Bits: the fewest valid ticks for listening computers with a video chip.
-pub const VALID_LEAST_FOR_VIDEO_CHIP: u32 = 60;
 
 /// Bits: the most valid ticks.
 pub const VALID_MOST: u32 = 200;

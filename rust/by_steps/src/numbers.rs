@@ -1,5 +1,5 @@
 //! The numbers of "Numbers and what they leave" and of the requests #101 (38 and
-//! 39), #103 (40) and #104 (12), each by one name.
+//! 39) and #103 (40), each by one name.
 
 /// The writer's number where it refuses nothing.
 pub const WRITTEN: u32 = 0;
@@ -15,7 +15,6 @@ pub const TOTAL_TICKS_WRONG: u32 = 8;
 pub const TOO_LITTLE_LENT: u32 = 9;
 pub const TOO_MANY_BYTES: u32 = 10;
 pub const DESTINATION_TOO_SMALL: u32 = 11;
-pub const OTHER_PROFILE: u32 = 12;
 
 pub const COMPLETE: u32 = 20;
 pub const EMPTY_STREAM: u32 = 21;

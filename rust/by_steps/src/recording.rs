@@ -1,10 +1,9 @@
-//! "Recording layout", and the refusals 1 to 9 and 12 that come before judging.
+//! "Recording layout", and the refusals 1 to 9 that guard it.
 
 use crate::numbers::{
     DURATION_ZERO, LENGTH_WRONG, OTHER_BITS, OTHER_OFFSET, OTHER_VERSION, TOO_LITTLE_LENT,
     TOO_MANY_STEPS, TOTAL_TICKS_WRONG, UNDER_SIXTEEN_BYTES,
 };
-pub use crate::profile::Profile;
 pub use crate::step::{Lines, Step};
 use crate::step::{StepBytes, STEP_BYTES};
 use crate::Answer;
@@ -41,23 +40,12 @@ impl<'a> Recording<'a> {
     }
 }
 
-/// All tests in their order. #104 puts 12 "after 8 and before 9".
+/// Tests 1 to 9 in their order.
 pub fn check(
     file: &[u8],
-    profile: u32,
     byte_places: usize,
     ledger_places: usize,
-) -> Result<(Recording<'_>, Profile), Answer> {
-    let recording = check_form(file)?;
-    let profile = Profile::named(profile)?;
-    if byte_places < LEAST_BYTE_PLACES || ledger_places < LEAST_LEDGER_PLACES {
-        return Err(Answer::refusal(TOO_LITTLE_LENT, 0));
-    }
-    Ok((recording, profile))
-}
-
-/// Tests 1 to 8.
-fn check_form(file: &[u8]) -> Result<Recording<'_>, Answer> {
+) -> Result<Recording<'_>, Answer> {
     let (steps, total_ticks) = check_header(file)?;
     let survey = Survey::of(steps);
     if survey.fault {
@@ -65,6 +53,9 @@ fn check_form(file: &[u8]) -> Result<Recording<'_>, Answer> {
     }
     if survey.ticks != total_ticks {
         return Err(Answer::refusal(TOTAL_TICKS_WRONG, 0));
+    }
+    if byte_places < LEAST_BYTE_PLACES || ledger_places < LEAST_LEDGER_PLACES {
+        return Err(Answer::refusal(TOO_LITTLE_LENT, 0));
     }
     Ok(Recording {
         steps,

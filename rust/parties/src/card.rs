@@ -1,7 +1,7 @@
 //! Transfers whose bytes are all alike.
 
 use crate::limits;
-use crate::{Bit, Byte, Ending, Profile, Transfer};
+use crate::{Bit, Byte, Ending, Transfer};
 
 /// One span of each kind, in ticks; the names are those of [`Transfer`] and [`Byte`].
 #[derive(Clone, Copy, Debug)]
@@ -36,7 +36,7 @@ impl Card {
         silence: 100,
     };
 
-    /// The least that the rules of profile 0 allow after any byte.
+    /// The least that the rules allow after any byte.
     pub const LEAST: Card = Card {
         hold: limits::LATER_HOLD.least,
         ready_to_send: limits::READY_TO_SEND.least,
@@ -45,7 +45,7 @@ impl Card {
         acknowledgement: limits::ACKNOWLEDGEMENT.least,
         after_acknowledgement: limits::AFTER_ACKNOWLEDGEMENT.least,
         set_up: limits::SET_UP.least,
-        valid: Profile::Standard.valid().least,
+        valid: limits::VALID.least,
         take: limits::TAKE.least,
         silence: limits::SILENCE.least,
     };

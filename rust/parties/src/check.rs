@@ -1,26 +1,21 @@
 //! The words of demand 3 on the shown pair: "It is a pair for the string, it gives the recording, and its two ticks for
 //! each byte are the ledger's." (document 01, "The two parties' own rules") And request #103's: "some pair exists and no
-//! step is marked". And request #104's: "Demand 3 holds for each" profile.
+//! step is marked".
 
 use crate::rules::check_pair;
 use crate::shown::shown;
 use crate::timetable::Timetable;
-use crate::{Kind, Lines, Pair, Profile, Track};
+use crate::{Kind, Lines, Pair, Track};
 
 /// Makes the shown pair off a plain recording and a ledger of two ticks for each byte of the string, and holds it to all
-/// that demand 3 says of it under the profile.
+/// that demand 3 says of it.
 ///
 /// # Errors
 ///
 /// What does not hold, with the byte (counted from 0) and the tick.
-pub fn check_shown_pair(
-    recording: &[u8],
-    string: &[u8],
-    ledger: &[u32],
-    profile: Profile,
-) -> Result<(), String> {
+pub fn check_shown_pair(recording: &[u8], string: &[u8], ledger: &[u32]) -> Result<(), String> {
     let lines = Lines::read(recording)?;
-    check_shown(&lines, string, ledger, Kind::Plain, profile)
+    check_shown(&lines, string, ledger, Kind::Plain)
 }
 
 /// The same for a command recording: demand 3 as request #101 words it. The finish is the first tick with ATN released.
@@ -28,32 +23,21 @@ pub fn check_shown_pair(
 /// # Errors
 ///
 /// What does not hold, with the byte (counted from 0) and the tick.
-pub fn check_shown_command(
-    recording: &[u8],
-    string: &[u8],
-    ledger: &[u32],
-    profile: Profile,
-) -> Result<(), String> {
+pub fn check_shown_command(recording: &[u8], string: &[u8], ledger: &[u32]) -> Result<(), String> {
     let lines = Lines::read(recording)?;
-    check_shown(&lines, string, ledger, Kind::command_in(&lines), profile)
+    check_shown(&lines, string, ledger, Kind::command_in(&lines))
 }
 
 /// For a recording of this kind. Marks come first, for what is shown after lost ticks is not known; then ATN: where it is
 /// wrong, it is not known which ticks bind.
-fn check_shown(
-    lines: &Lines,
-    string: &[u8],
-    ledger: &[u32],
-    kind: Kind,
-    profile: Profile,
-) -> Result<(), String> {
+fn check_shown(lines: &Lines, string: &[u8], ledger: &[u32], kind: Kind) -> Result<(), String> {
     if ledger.len() != 2 * string.len() {
         return Err("the ledger has two ticks for each byte".to_string());
     }
     check_unmarked(lines)?;
     check_attention(kind, lines)?;
     let pair = shown(lines, ledger, kind)?;
-    check_pair(&pair, string, profile)?;
+    check_pair(&pair, string)?;
     check_given(&pair, lines)?;
     check_ticks(&pair, string, ledger)
 }

@@ -3,7 +3,7 @@
 mod finish;
 
 use crate::limits::{self, Window, NO_LIMIT};
-use crate::{Bit, Byte, Ending, Profile, Random, Transfer};
+use crate::{Bit, Byte, Ending, Random, Transfer};
 
 pub use finish::MOST_STRETCHES;
 
@@ -44,14 +44,14 @@ pub const DENSE: Style = Style {
     always_carried: true,
 };
 
-/// Draws a plain transfer of `count` bytes. It keeps every rule of the profile.
+/// Draws a plain transfer of `count` bytes. It keeps every rule.
 #[must_use]
-pub fn transfer(random: &mut Random, count: usize, style: Style, profile: Profile) -> Transfer {
+pub fn transfer(random: &mut Random, count: usize, style: Style) -> Transfer {
     let first_take = span(random, limits::FIRST_TAKE, style);
     // The fields are drawn in this order.
     Transfer {
         first_take,
-        bytes: bytes(random, count, limits::END_MARK, style, profile),
+        bytes: bytes(random, count, limits::END_MARK, style),
         acknowledgement: span(random, limits::ACKNOWLEDGEMENT, style),
         after_acknowledgement: span(random, limits::AFTER_ACKNOWLEDGEMENT, style),
         last_hold: span(random, limits::LATER_HOLD, style),
@@ -61,12 +61,11 @@ pub fn transfer(random: &mut Random, count: usize, style: Style, profile: Profil
     }
 }
 
-/// Draws a command of `count` bytes. It keeps every rule of the profile. After its finish there are up to
-/// [`MOST_STRETCHES`] stretches.
+/// Draws a command of `count` bytes. It keeps every rule. After its finish there are up to [`MOST_STRETCHES`] stretches.
 #[must_use]
-pub fn command(random: &mut Random, count: usize, style: Style, profile: Profile) -> Transfer {
+pub fn command(random: &mut Random, count: usize, style: Style) -> Transfer {
     let first_take = span(random, limits::FIRST_TAKE, style);
-    let mut bytes = bytes(random, count, limits::READY_FOR_DATA, style, profile);
+    let mut bytes = bytes(random, count, limits::READY_FOR_DATA, style);
     if let Some(last) = bytes.last_mut() {
         finish::hurry_last_handover(random, last);
     }
@@ -80,13 +79,7 @@ pub fn command(random: &mut Random, count: usize, style: Style, profile: Profile
 }
 
 /// The bytes. The last one is ready for data for as long as `last` says.
-fn bytes(
-    random: &mut Random,
-    count: usize,
-    last: Window,
-    style: Style,
-    profile: Profile,
-) -> Vec<Byte> {
+fn bytes(random: &mut Random, count: usize, last: Window, style: Style) -> Vec<Byte> {
     let mut bytes = Vec::with_capacity(count);
     for place in 0..count {
         let hold = if place == 0 {
@@ -99,7 +92,7 @@ fn bytes(
         } else {
             limits::READY_FOR_DATA
         };
-        bytes.push(byte(random, hold, ready_for_data, style, profile));
+        bytes.push(byte(random, hold, ready_for_data, style));
     }
     bytes
 }
@@ -121,20 +114,14 @@ fn span(random: &mut Random, window: Window, style: Style) -> u32 {
 }
 
 /// A byte, with a handover of either kind.
-fn byte(
-    random: &mut Random,
-    hold: Window,
-    ready_for_data: Window,
-    style: Style,
-    profile: Profile,
-) -> Byte {
+fn byte(random: &mut Random, hold: Window, ready_for_data: Window, style: Style) -> Byte {
     let value = value(random, style);
     let mut byte = Byte {
         value,
         hold: span(random, hold, style),
         ready_to_send: span(random, limits::READY_TO_SEND, style),
         ready_for_data: span(random, ready_for_data, style),
-        bits: std::array::from_fn(|_| bit(random, style, profile)),
+        bits: std::array::from_fn(|_| bit(random, style)),
         keep: 0,
         take: span(random, limits::TAKE, style),
     };
@@ -158,9 +145,9 @@ fn value(random: &mut Random, style: Style) -> u8 {
 }
 
 /// One bit's spans. Moves of DATA lie inside the set-up, at its second tick or later.
-fn bit(random: &mut Random, style: Style, profile: Profile) -> Bit {
+fn bit(random: &mut Random, style: Style) -> Bit {
     let set_up = span(random, limits::SET_UP, style);
-    let valid = span(random, profile.valid(), style);
+    let valid = span(random, limits::VALID, style);
     let mut moves = [0; 3];
     if set_up > 1 && random.one_in(style.moves_one_in) {
         let count = random.pick(&[1, 1, 1, 2, 3]);

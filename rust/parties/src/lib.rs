@@ -1,9 +1,9 @@
 //! The sender's and the receiver's own rules, written from the user's papers alone: document 01, "The two parties' own
-//! rules", and what the requests #101, #103 and #104 of document 02 say of a command's, of marked steps and of profiles.
+//! rules", and what the requests #101 and #103 of document 02 say of a command's and of marked steps.
 //!
 //! Nothing here judges: there is no phase and no state. A *pair* is three tracks of pulls, and each rule is a statement
 //! about where a pull begins or ends. Whether a pair is of a plain recording or of a command is a value, its [`Kind`]: the
-//! rules that both keep stand once. So is the [`Profile`]: the rules stand once over its valid time. Two uses:
+//! rules that both keep stand once. Two uses:
 //!
 //! - [`check_shown_pair`] and [`check_shown_command`] read the pair that a recording and a ledger show, and hold it to
 //!   every rule, and the recording to having no step marked. It is what a recording judged complete must pass.
@@ -25,7 +25,6 @@ mod lay_out;
 pub mod limits;
 mod lines;
 mod pair;
-mod profile;
 mod random;
 mod rules;
 mod shown;
@@ -40,7 +39,6 @@ pub use ending::{Ending, Stretch};
 pub use kind::Kind;
 pub use lines::Lines;
 pub use pair::Pair;
-pub use profile::Profile;
 pub use random::Random;
 pub use rules::check_pair;
 pub use shown::{shown_command, shown_pair};

@@ -1,5 +1,4 @@
-//! The times of document 01, "The two parties' own rules", each under one name. Request #101 has no others. A bit's valid
-//! time is the profile's: [`Profile::valid`](crate::Profile::valid).
+//! The times of document 01, "The two parties' own rules", each under one name. Request #101 has no others.
 
 use std::fmt;
 
@@ -16,7 +15,7 @@ pub struct Window {
 pub const NO_LIMIT: u32 = u32::MAX;
 
 impl Window {
-    pub(crate) const fn new(least: u32, most: u32) -> Window {
+    const fn new(least: u32, most: u32) -> Window {
         Window { least, most }
     }
 
@@ -56,6 +55,8 @@ pub const ACKNOWLEDGEMENT: Window = Window::new(60, 150);
 pub const AFTER_ACKNOWLEDGEMENT: Window = Window::new(1, 60);
 /// "CLK pulled for 1 to 200 ticks" (the judge's phases, "Bits", which the parties' rules cite).
 pub const SET_UP: Window = Window::new(1, 200);
+/// "CLK pulled after fewer than 20 valid ticks", "A 201st valid tick" are wrong (the same place).
+pub const VALID: Window = Window::new(20, 200);
 /// "If that bit was one it may go on pulling DATA without a break and stops at offset 0 to 100".
 pub const KEEP: Window = Window::new(0, 100);
 /// "The receiver takes DATA at offset 1 to 1,000".

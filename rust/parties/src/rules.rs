@@ -1,6 +1,5 @@
 //! Document 01, "The two parties' own rules": its six bullets in its order, one file for each, and "No other pulls occur."
-//! Request #101 has a command end otherwise: the file on the finish. Request #104 has the valid time be the profile's: the
-//! file on the bits.
+//! Request #101 has a command end otherwise: the file on the finish.
 
 mod bits;
 mod end;
@@ -11,25 +10,22 @@ mod ready_for_data;
 mod ready_to_send;
 mod start;
 
-use std::fmt::Display;
-
 use crate::limits::Window;
 use crate::timetable::Timetable;
-use crate::{Kind, Pair, Profile};
+use crate::{Kind, Pair};
 
-/// Whether this is a pair for exactly this string: every rule of both parties for its kind under the profile, for every
-/// byte.
+/// Whether this is a pair for exactly this string: every rule of both parties for its kind, for every byte.
 ///
 /// # Errors
 ///
 /// The first rule that is broken, with its byte (counted from 0) and tick.
-pub fn check_pair(pair: &Pair, string: &[u8], profile: Profile) -> Result<(), String> {
+pub fn check_pair(pair: &Pair, string: &[u8]) -> Result<(), String> {
     let table = Timetable::new(pair, string)?;
     start::check(&table)?;
     for byte in 0..string.len() {
         ready_to_send::check(&table, byte)?;
         ready_for_data::check(&table, byte)?;
-        bits::check(&table, byte, profile)?;
+        bits::check(&table, byte)?;
         handover::check(&table, byte)?;
     }
     check_ending(&table)?;
@@ -49,13 +45,7 @@ fn check_ending(table: &Timetable) -> Result<(), String> {
 }
 
 /// Whether the change at `later` comes as many ticks after the one at `earlier` as the window says.
-fn after(
-    byte: usize,
-    rule: impl Display,
-    earlier: u32,
-    later: u32,
-    window: Window,
-) -> Result<(), String> {
+fn after(byte: usize, rule: &str, earlier: u32, later: u32, window: Window) -> Result<(), String> {
     let ticks = i64::from(later) - i64::from(earlier);
     if window.has(ticks) {
         return Ok(());

@@ -3,16 +3,11 @@
 mod other_strings;
 
 use parties::draw::{self, Style, BRISK, DENSE, WIDE};
-use parties::{check_given, check_pair, file_of, Lines, Pair, Profile, Random};
+use parties::{check_given, check_pair, file_of, Lines, Pair, Random};
 
 /// One drawn transfer, laid out.
-fn drawn(
-    random: &mut Random,
-    count: usize,
-    style: Style,
-    profile: Profile,
-) -> (Pair, Vec<u8>, Vec<u32>) {
-    let transfer = draw::transfer(random, count, style, profile);
+fn drawn(random: &mut Random, count: usize, style: Style) -> (Pair, Vec<u8>, Vec<u32>) {
+    let transfer = draw::transfer(random, count, style);
     let (pair, ledger) = transfer.lay_out();
     (pair, transfer.string(), ledger)
 }
@@ -22,12 +17,11 @@ fn a_drawn_pair_keeps_every_rule_and_gives_its_recording() {
     let mut random = Random::new(7);
     for round in 0..3000 {
         let style = [BRISK, WIDE, DENSE][round % 3];
-        let profile = Profile::ALL[round % 2];
         let count = 1 + random.place(6);
-        let (pair, string, ledger) = drawn(&mut random, count, style, profile);
+        let (pair, string, ledger) = drawn(&mut random, count, style);
         assert_eq!(string.len(), count);
         assert_eq!(ledger.len(), 2 * count);
-        check_pair(&pair, &string, profile).unwrap();
+        check_pair(&pair, &string).unwrap();
         let lines = Lines::read(&file_of(&pair.steps())).unwrap();
         check_given(&pair, &lines).unwrap();
     }
@@ -37,7 +31,7 @@ fn a_drawn_pair_keeps_every_rule_and_gives_its_recording() {
 fn a_drawn_pair_is_for_no_other_string() {
     let mut random = Random::new(8);
     for _ in 0..500 {
-        let (pair, string, _) = drawn(&mut random, 3, BRISK, Profile::Standard);
+        let (pair, string, _) = drawn(&mut random, 3, BRISK);
         other_strings::are_found(&pair, &string, &mut random);
     }
 }
@@ -45,8 +39,8 @@ fn a_drawn_pair_is_for_no_other_string() {
 #[test]
 fn the_densest_transfer_has_841_bytes() {
     let mut random = Random::new(9);
-    let (pair, string, _) = drawn(&mut random, 841, DENSE, Profile::Standard);
-    check_pair(&pair, &string, Profile::Standard).unwrap();
+    let (pair, string, _) = drawn(&mut random, 841, DENSE);
+    check_pair(&pair, &string).unwrap();
     // Nineteen for each byte, five for the end mark and the end, and one more where the receiver takes late.
     assert!((19 * 841 + 5..=16_000).contains(&pair.steps().len()));
 }
@@ -56,7 +50,7 @@ fn carried_and_open_handovers_are_both_drawn() {
     let mut random = Random::new(10);
     let (mut carried, mut open, mut zero) = (0, 0, 0);
     for _ in 0..300 {
-        let (pair, string, ledger) = drawn(&mut random, 1, WIDE, Profile::Standard);
+        let (pair, string, ledger) = drawn(&mut random, 1, WIDE);
         let broken = !pair
             .sender_data
             .either(&pair.receiver_data)

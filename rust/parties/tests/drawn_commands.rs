@@ -4,23 +4,21 @@ mod other_strings;
 
 use parties::draw::{self, Style, BRISK, DENSE, MOST_STRETCHES, WIDE};
 use parties::{check_given, check_pair, check_shown_command, check_shown_pair, file_of};
-use parties::{Ending, Kind, Lines, Pair, Profile, Random, Stretch, Transfer, MOST_STEPS};
+use parties::{Ending, Kind, Lines, Pair, Random, Stretch, Transfer, MOST_STEPS};
 
 /// One drawn command, laid out.
 struct Drawn {
-    profile: Profile,
     transfer: Transfer,
     pair: Pair,
     string: Vec<u8>,
     ledger: Vec<u32>,
 }
 
-fn drawn(random: &mut Random, count: usize, style: Style, profile: Profile) -> Drawn {
-    let transfer = draw::command(random, count, style, profile);
+fn drawn(random: &mut Random, count: usize, style: Style) -> Drawn {
+    let transfer = draw::command(random, count, style);
     let (pair, ledger) = transfer.lay_out();
     let string = transfer.string();
     Drawn {
-        profile,
         transfer,
         pair,
         string,
@@ -64,13 +62,13 @@ impl Drawn {
     }
 }
 
-/// Many of them, of every style and profile.
+/// Many of them, of every style.
 fn many(seed: u64, rounds: usize) -> impl Iterator<Item = Drawn> {
     let mut random = Random::new(seed);
     (0..rounds).map(move |round| {
         let style = [BRISK, WIDE, DENSE][round % 3];
         let count = 1 + random.place(6);
-        drawn(&mut random, count, style, Profile::ALL[round % 2])
+        drawn(&mut random, count, style)
     })
 }
 
@@ -78,7 +76,7 @@ fn many(seed: u64, rounds: usize) -> impl Iterator<Item = Drawn> {
 fn a_drawn_command_keeps_every_rule_and_gives_its_recording() {
     for drawn in many(13, 3000) {
         assert_eq!(drawn.ledger.len(), 2 * drawn.string.len());
-        check_pair(&drawn.pair, &drawn.string, drawn.profile).unwrap();
+        check_pair(&drawn.pair, &drawn.string).unwrap();
         let lines = Lines::read(&file_of(&drawn.pair.steps())).unwrap();
         assert_eq!(lines.finish(), drawn.finish());
         check_given(&drawn.pair, &lines).unwrap();
@@ -90,8 +88,8 @@ fn a_drawn_command_shows_a_pair() {
     for drawn in many(14, 3000) {
         let file = file_of(&drawn.pair.steps());
         let ledger = drawn.earliest();
-        check_shown_command(&file, &drawn.string, &ledger, drawn.profile).unwrap();
-        assert!(check_shown_pair(&file, &drawn.string, &ledger, drawn.profile).is_err());
+        check_shown_command(&file, &drawn.string, &ledger).unwrap();
+        assert!(check_shown_pair(&file, &drawn.string, &ledger).is_err());
     }
 }
 
@@ -99,7 +97,7 @@ fn a_drawn_command_shows_a_pair() {
 fn a_drawn_command_is_for_no_other_string() {
     let mut random = Random::new(15);
     for _ in 0..500 {
-        let Drawn { pair, string, .. } = drawn(&mut random, 3, BRISK, Profile::Standard);
+        let Drawn { pair, string, .. } = drawn(&mut random, 3, BRISK);
         other_strings::are_found(&pair, &string, &mut random);
     }
 }
@@ -108,8 +106,8 @@ fn a_drawn_command_is_for_no_other_string() {
 #[test]
 fn a_dense_command_of_841_bytes_has_room_for_what_comes_after_it() {
     let mut random = Random::new(16);
-    let drawn = drawn(&mut random, 841, DENSE, Profile::Standard);
-    check_pair(&drawn.pair, &drawn.string, drawn.profile).unwrap();
+    let drawn = drawn(&mut random, 841, DENSE);
+    check_pair(&drawn.pair, &drawn.string).unwrap();
     let least = 19 * 841 + 2;
     assert!((least..=MOST_STEPS).contains(&drawn.pair.steps().len()));
     assert!(least + 1 + MOST_STRETCHES as usize <= MOST_STEPS);
@@ -183,16 +181,16 @@ fn a_drawn_command_broken_at_its_finish_is_found() {
     for mut drawn in many(19, 1000) {
         drawn.transfer.last_hold = 99;
         let pair = drawn.transfer.lay_out().0;
-        let error = check_pair(&pair, &drawn.string, drawn.profile).unwrap_err();
+        let error = check_pair(&pair, &drawn.string).unwrap_err();
         assert!(error.contains("the finish comes 100 or more"), "{error}");
         let mut cut = drawn.pair.clone();
         cut.total = drawn.finish();
-        let error = check_pair(&cut, &drawn.string, drawn.profile).unwrap_err();
+        let error = check_pair(&cut, &drawn.string).unwrap_err();
         assert!(error.contains("the finish is in the recording"), "{error}");
         let last = drawn.transfer.bytes.last_mut().unwrap();
         last.ready_for_data = 200;
         let pair = drawn.transfer.lay_out().0;
-        let error = check_pair(&pair, &drawn.string, drawn.profile).unwrap_err();
+        let error = check_pair(&pair, &drawn.string).unwrap_err();
         assert!(error.contains("a command's last byte"), "{error}");
     }
 }

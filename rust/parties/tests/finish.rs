@@ -2,7 +2,7 @@
 //! both ends of its window.
 
 use parties::{check_given, check_pair, file_of};
-use parties::{Card, Ending, Kind, Lines, Pair, Profile, Random, Stretch, Track, Transfer};
+use parties::{Card, Ending, Kind, Lines, Pair, Random, Stretch, Track, Transfer};
 
 /// Three bytes: bit 8 one, then zero, then one.
 const STRING: [u8; 3] = [0xC1, 0x42, 0x83];
@@ -28,16 +28,11 @@ fn laid_out() -> (Pair, u32) {
     (pair, finish)
 }
 
-/// What `check_pair` says of a pair.
-fn checked(pair: &Pair) -> Result<(), String> {
-    check_pair(pair, &STRING, Profile::Standard)
-}
-
 /// What `check_pair` says once `change` has changed the command.
 fn said(change: impl Fn(&mut Transfer)) -> Result<(), String> {
     let mut changed = command();
     change(&mut changed);
-    checked(&changed.lay_out().0)
+    check_pair(&changed.lay_out().0, &STRING)
 }
 
 fn is_found(said: Result<(), String>, words: &str) {
@@ -76,13 +71,13 @@ fn it_is_no_plain_pair() {
     let (mut pair, _) = laid_out();
     pair.kind = Kind::Plain;
     is_found(
-        checked(&pair),
+        check_pair(&pair, &STRING),
         "the receiver's DATA is pulled 4 times, not 5",
     );
     let mut plain = Card::WRITTEN.transfer(&STRING).lay_out().0;
     for finish in 0..plain.total {
         plain.kind = Kind::Command { finish };
-        assert!(checked(&plain).is_err(), "finish {finish}");
+        assert!(check_pair(&plain, &STRING).is_err(), "finish {finish}");
     }
 }
 
@@ -119,7 +114,7 @@ fn the_finish_may_be_where_both_hold_after_the_last_byte_alone() {
     let total = pair.total;
     for tick in 0..total + 2 {
         pair.kind = Kind::Command { finish: tick };
-        let said = checked(&pair);
+        let said = check_pair(&pair, &STRING);
         let right = finish - 100 <= tick && tick < total;
         assert_eq!(said.is_ok(), right, "tick {tick}: {said:?}");
     }
@@ -129,10 +124,10 @@ fn the_finish_may_be_where_both_hold_after_the_last_byte_alone() {
 fn the_finish_is_in_the_recording() {
     let (mut pair, finish) = laid_out();
     pair.total = finish + 1;
-    assert_eq!(checked(&pair), Ok(()));
+    assert_eq!(check_pair(&pair, &STRING), Ok(()));
     pair.total = finish;
     is_found(
-        checked(&pair),
+        check_pair(&pair, &STRING),
         "the finish is in the recording: it is not so",
     );
 }
@@ -144,13 +139,13 @@ fn both_hold_their_lines_in_the_finish_tick() {
     let mut pair = base.clone();
     pair.clock = base.clock.outside(&tick);
     is_found(
-        checked(&pair),
+        check_pair(&pair, &STRING),
         "the sender still holds CLK in the finish tick",
     );
     let mut pair = base.clone();
     pair.receiver_data = base.receiver_data.outside(&tick);
     is_found(
-        checked(&pair),
+        check_pair(&pair, &STRING),
         "the receiver still holds DATA in the finish tick",
     );
 }
@@ -164,13 +159,13 @@ fn both_hold_their_lines_up_to_the_finish() {
         let mut pair = base.clone();
         pair.clock = base.clock.outside(&tick);
         is_found(
-            checked(&pair),
+            check_pair(&pair, &STRING),
             "the sender's CLK is pulled 29 times, not 28 up to the finish",
         );
         let mut pair = base.clone();
         pair.receiver_data = base.receiver_data.outside(&tick);
         is_found(
-            checked(&pair),
+            check_pair(&pair, &STRING),
             "the receiver's DATA is pulled 5 times, not 4 up to the finish",
         );
     }
@@ -182,7 +177,7 @@ fn the_sender_keeps_off_data_up_to_the_finish_tick() {
     for (tick, right) in [(finish - 1, false), (finish, false), (finish + 1, true)] {
         let mut pair = base.clone();
         pair.sender_data = base.sender_data.either(&pull(tick, tick + 1));
-        let said = checked(&pair);
+        let said = check_pair(&pair, &STRING);
         assert_eq!(said.is_ok(), right, "tick {tick}: {said:?}");
     }
 }
@@ -205,7 +200,7 @@ fn after_the_finish_everybody_is_free() {
             2 => pair.receiver_data = noisy(&base.receiver_data),
             _ => pair.service_request = noisy(&base.service_request),
         }
-        assert_eq!(checked(&pair), Ok(()));
+        assert_eq!(check_pair(&pair, &STRING), Ok(()));
     }
 }
 

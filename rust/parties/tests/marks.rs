@@ -4,12 +4,12 @@
 use parties::draw::{self, BRISK, WIDE};
 use parties::{check_given, check_pair, check_shown_command, check_shown_pair, check_unmarked};
 use parties::{file_of, steps_of, ticks_of, Card, Ending, Lines, Pair, Random, Step, Stretch};
-use parties::{Profile, Transfer, MARKED};
+use parties::{Transfer, MARKED};
 
 const STRING: [u8; 2] = [0x41, 0x80];
 
-/// What is checked of a recording, a string and a ledger under a profile.
-type Check = fn(&[u8], &[u8], &[u32], Profile) -> Result<(), String>;
+/// What is checked of a recording, a string and a ledger.
+type Check = fn(&[u8], &[u8], &[u32]) -> Result<(), String>;
 
 /// A command with ticks after its finish.
 fn command() -> Transfer {
@@ -36,19 +36,13 @@ fn both() -> [(Pair, Vec<u32>, Check); 2] {
 fn any_marked_step_is_found() {
     for (pair, ledger, check) in both() {
         let unmarked = pair.steps();
-        assert_eq!(
-            check(&file_of(&unmarked), &STRING, &ledger, Profile::Standard),
-            Ok(())
-        );
+        assert_eq!(check(&file_of(&unmarked), &STRING, &ledger), Ok(()));
         for place in 0..unmarked.len() {
             let mut steps = unmarked.clone();
             steps[place] = steps[place].marked();
             let tick = ticks_of(&steps[..place]);
             let words = format!("tick {tick}: no step is marked: it is not so");
-            assert_eq!(
-                check(&file_of(&steps), &STRING, &ledger, Profile::Standard),
-                Err(words)
-            );
+            assert_eq!(check(&file_of(&steps), &STRING, &ledger), Err(words));
         }
     }
 }
@@ -60,7 +54,7 @@ fn a_marked_recording_still_has_a_pair() {
         let mut steps = pair.steps();
         steps[9] = steps[9].marked();
         let lines = Lines::read(&file_of(&steps)).unwrap();
-        assert_eq!(check_pair(&pair, &STRING, Profile::Standard), Ok(()));
+        assert_eq!(check_pair(&pair, &STRING), Ok(()));
         assert_eq!(check_given(&pair, &lines), Ok(()));
         assert!(check_unmarked(&lines).is_err());
     }
@@ -73,12 +67,9 @@ fn a_mark_inside_a_step_is_found() {
         let mut steps = pair.steps();
         steps[4].duration -= 5;
         steps.insert(4, Step::new(5, steps[4].lines));
-        assert_eq!(
-            check(&file_of(&steps), &STRING, &ledger, Profile::Standard),
-            Ok(())
-        );
+        assert_eq!(check(&file_of(&steps), &STRING, &ledger), Ok(()));
         steps[5].mark = MARKED;
-        assert!(check(&file_of(&steps), &STRING, &ledger, Profile::Standard).is_err());
+        assert!(check(&file_of(&steps), &STRING, &ledger).is_err());
     }
 }
 
@@ -123,10 +114,9 @@ fn drawn_recordings_are_unmarked() {
     let mut random = Random::new(20);
     for round in 0..600 {
         let style = [BRISK, WIDE][round % 2];
-        let profile = Profile::ALL[round / 2 % 2];
         let transfers = [
-            draw::transfer(&mut random, 2, style, profile),
-            draw::command(&mut random, 2, style, profile),
+            draw::transfer(&mut random, 2, style),
+            draw::command(&mut random, 2, style),
         ];
         for transfer in transfers {
             let steps = transfer.lay_out().0.steps();

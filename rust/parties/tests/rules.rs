@@ -1,7 +1,7 @@
 //! Each rule of the two parties broken once, and kept at both ends of its window: of a plain transfer, and where a command
 //! has the rule too, of a command.
 
-use parties::{check_pair, Card, Ending, Kind, Pair, Profile, Stretch, Track, Transfer};
+use parties::{check_pair, Card, Ending, Kind, Pair, Stretch, Track, Transfer};
 
 /// Three bytes: bit 8 one, then zero, then one.
 const STRING: [u8; 3] = [0xC1, 0x42, 0x83];
@@ -41,16 +41,11 @@ fn laid_out(transfer: &Transfer) -> Pair {
     transfer.lay_out().0
 }
 
-/// What `check_pair` says of a pair.
-fn checked(pair: &Pair) -> Result<(), String> {
-    check_pair(pair, &STRING, Profile::Standard)
-}
-
 /// What `check_pair` says once `change` has changed the transfer.
 fn said(transfer: &Transfer, change: impl Fn(&mut Transfer)) -> Result<(), String> {
     let mut changed = transfer.clone();
     change(&mut changed);
-    checked(&laid_out(&changed))
+    check_pair(&laid_out(&changed), &STRING)
 }
 
 /// Sets one span of a transfer to each value: those in `kept` keep the rules, those in `broken` break the rule whose words
@@ -116,7 +111,7 @@ fn start() {
         for pull in std::mem::take(&mut late.clock).pulls() {
             late.clock.add(pull.from.max(1), pull.until);
         }
-        let error = checked(&late).unwrap_err();
+        let error = check_pair(&late, &STRING).unwrap_err();
         assert!(
             error.contains("byte 0, tick 1: the sender pulls CLK from tick 0"),
             "{error}"
@@ -262,7 +257,7 @@ fn one_tick_of_other_data(base: &Pair) {
             data.at(pull.from)
                 .is_some_and(|keep| tick + 1 == keep.until || tick == keep.until)
         });
-        let said = checked(&pair);
+        let said = check_pair(&pair, &STRING);
         assert_eq!(said.is_ok(), in_bits || stops, "tick {tick}: {said:?}");
     }
 }
@@ -284,7 +279,7 @@ fn receiver_early(base: &Pair) {
         let from = if early { handover - 1 } else { pull.from };
         pair.receiver_data.add(from, pull.until);
     }
-    let error = checked(&pair).unwrap_err();
+    let error = check_pair(&pair, &STRING).unwrap_err();
     assert!(
         error.contains("byte 0") && error.contains("the receiver keeps off DATA"),
         "{error}"
@@ -326,7 +321,7 @@ fn end() {
     plain_span(|t, value| t.silence = value, &[1, 2, 70_000], &[0], words);
     let mut pair = laid_out(&plain());
     pair.sender_data.add(pair.total - 1, pair.total);
-    let error = checked(&pair).unwrap_err();
+    let error = check_pair(&pair, &STRING).unwrap_err();
     assert!(error.contains("nobody pulls DATA"), "{error}");
 }
 
@@ -336,12 +331,12 @@ fn no_other_pulls_occur() {
     let (end, total) = (base.total - 1, base.total);
     let mut pair = base.clone();
     pair.clock.add(end, total);
-    assert!(checked(&pair)
+    assert!(check_pair(&pair, &STRING)
         .unwrap_err()
         .contains("the sender's CLK is pulled 29 times"));
     let mut pair = base.clone();
     pair.receiver_data.add(end, total);
-    assert!(checked(&pair)
+    assert!(check_pair(&pair, &STRING)
         .unwrap_err()
         .contains("the receiver's DATA is pulled 6 times"));
 }
@@ -367,7 +362,7 @@ fn sender_outside(base: &Pair) {
             let mut extra = Track::new();
             extra.add(tick, tick + 1);
             pair.sender_data = base.sender_data.either(&extra);
-            assert!(checked(&pair).is_err(), "tick {tick}");
+            assert!(check_pair(&pair, &STRING).is_err(), "tick {tick}");
         }
         begin = clock.get(9 * byte + 9).map_or(0, |pull| pull.from) + 42;
     }

@@ -2,7 +2,7 @@
 
 mod windows;
 
-use parties::{check_shown_pair, file_of, steps_of, ticks_of, Card, Profile, Step};
+use parties::{check_shown_pair, file_of, steps_of, ticks_of, Card, Step};
 
 /// Document 01, "Sample recordings": S1, of the byte 0x41.
 const S1: &[u8] = include_bytes!("../../../samples/s1.rec");
@@ -20,12 +20,8 @@ fn carried(hold: u16) -> Vec<Step> {
     steps
 }
 
-fn check_file(file: &[u8], string: &[u8], ledger: &[u32]) -> Result<(), String> {
-    check_shown_pair(file, string, ledger, Profile::Standard)
-}
-
 fn checked(steps: &[Step], string: &[u8], ledger: &[u32]) -> Result<(), String> {
-    check_file(&file_of(steps), string, ledger)
+    check_shown_pair(&file_of(steps), string, ledger)
 }
 
 #[test]
@@ -145,9 +141,9 @@ fn a_recording_of_bad_form_is_found() {
     ] {
         let mut wrong = S1.to_vec();
         wrong[place] = value;
-        let error = check_file(&wrong, &[0x41], &[1630, 1660]).unwrap_err();
+        let error = check_shown_pair(&wrong, &[0x41], &[1630, 1660]).unwrap_err();
         assert!(error.contains("not of good form"), "{error}");
     }
-    assert!(check_file(&S1[..112], &[0x41], &[1630, 1660]).is_err());
-    assert!(check_file(&[], &[0x41], &[1630, 1660]).is_err());
+    assert!(check_shown_pair(&S1[..112], &[0x41], &[1630, 1660]).is_err());
+    assert!(check_shown_pair(&[], &[0x41], &[1630, 1660]).is_err());
 }

@@ -3,8 +3,7 @@
 
 mod windows;
 
-use parties::{check_shown_command, check_shown_pair, file_of, ticks_of};
-use parties::{Card, Profile, Random, Step};
+use parties::{check_shown_command, check_shown_pair, file_of, ticks_of, Card, Random, Step};
 
 const ATTENTION: u8 = 1;
 const CLOCK: u8 = 2;
@@ -46,7 +45,7 @@ fn carried(offset: u16) -> Vec<Step> {
 }
 
 fn checked(steps: &[Step], string: &[u8], ledger: &[u32]) -> Result<(), String> {
-    check_shown_command(&file_of(steps), string, ledger, Profile::Standard)
+    check_shown_command(&file_of(steps), string, ledger)
 }
 
 /// The lines at each tick.
@@ -270,16 +269,13 @@ fn another_string_is_found() {
 fn one_kind_is_not_the_other() {
     let file = file_of(&command());
     is_found(
-        check_shown_pair(&file, &[0x41], &LEDGER, Profile::Standard),
+        check_shown_pair(&file, &[0x41], &LEDGER),
         "tick 0: ATN is released: it is not so",
     );
     let plain = Card::WRITTEN.transfer(&[0x41]).lay_out();
     let file = file_of(&plain.0.steps());
-    assert_eq!(
-        check_shown_pair(&file, &[0x41], &plain.1, Profile::Standard),
-        Ok(())
-    );
-    assert!(check_shown_command(&file, &[0x41], &plain.1, Profile::Standard).is_err());
+    assert_eq!(check_shown_pair(&file, &[0x41], &plain.1), Ok(()));
+    assert!(check_shown_command(&file, &[0x41], &plain.1).is_err());
 }
 
 #[test]
@@ -287,7 +283,7 @@ fn a_recording_of_bad_form_is_found() {
     let mut wrong = file_of(&command());
     wrong[0] = 2;
     is_found(
-        check_shown_command(&wrong, &[0x41], &LEDGER, Profile::Standard),
+        check_shown_command(&wrong, &[0x41], &LEDGER),
         "not of good form",
     );
 }

@@ -5,8 +5,6 @@
 
 #![allow(unsafe_code)]
 
-use crate::Profile;
-
 /// An answer as it crosses: four numbers of 32 bits, in this order.
 #[repr(C)]
 #[derive(Clone, Copy)]
@@ -21,7 +19,6 @@ extern "C" {
     fn station_judge(
         file: *const u8,
         file_length: usize,
-        profile: u32,
         bytes: *mut u8,
         bytes_length: usize,
         ledger: *mut u32,
@@ -31,7 +28,6 @@ extern "C" {
     fn station_judge_command(
         file: *const u8,
         file_length: usize,
-        profile: u32,
         bytes: *mut u8,
         bytes_length: usize,
         ledger: *mut u32,
@@ -48,18 +44,17 @@ extern "C" {
     ) -> StationAnswer;
 }
 
-/// The library's judges, which are handed the same.
+/// The library's judges, which are lent the same.
 #[derive(Clone, Copy)]
 pub(crate) enum Entry {
     Data,
     Command,
 }
 
-/// Lends the three slices to the library for one call, in which it is asked by the profile.
+/// Lends the three slices to the library for one call.
 pub(crate) fn judge(
     entry: Entry,
     file: &[u8],
-    profile: Profile,
     bytes: &mut [u8],
     ledger: &mut [u32],
 ) -> StationAnswer {
@@ -69,12 +64,11 @@ pub(crate) fn judge(
     };
     // SAFETY: each pointer and length is of one live slice, aligned for its elements and not null even where it is
     // empty; the two that are written are borrowed for this call alone, so nothing overlaps; the library keeps none of
-    // them, takes no memory and any number, and is proved to read and write inside them only.
+    // them, takes no memory, and is proved to read and write inside them only.
     unsafe {
         judge(
             file.as_ptr(),
             file.len(),
-            profile.number(),
             bytes.as_mut_ptr(),
             bytes.len(),
             ledger.as_mut_ptr(),

@@ -27,11 +27,11 @@ impl<'lent> CommandTransfer<'lent> {
     /// What each of the [bytes](CommandTransfer::bytes) means, in their order.
     ///
     /// ```
-    /// use station::{judge_command, Profile, BYTE_ROOM, LEDGER_ROOM};
+    /// use station::{judge_command, BYTE_ROOM, LEDGER_ROOM};
     ///
     /// let recording = include_bytes!("../../../samples/commands/drive-addressed.rec");
     /// let (mut bytes, mut ledger) = ([0; BYTE_ROOM], [0; LEDGER_ROOM]);
-    /// let commands = judge_command(recording, Profile::Standard, &mut bytes, &mut ledger)?;
+    /// let commands = judge_command(recording, &mut bytes, &mut ledger)?;
     /// for (byte, class) in commands.bytes().iter().zip(commands.classes()) {
     ///     println!("{byte:02x} {class}");
     /// }

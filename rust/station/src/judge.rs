@@ -1,14 +1,13 @@
 //! The judge's two entries.
 
 use crate::border::{self, Entry, StationAnswer};
-use crate::{CommandTransfer, Fault, JudgeError, Profile, Refusal, Transfer, COMPLETE};
+use crate::{CommandTransfer, Fault, JudgeError, Refusal, Transfer, COMPLETE};
 
 /// Judges one data transfer, in which ATN is released throughout. `Ok` is a pass, and nothing else is.
 ///
 /// `recording` is a whole recording file, and may be any bytes at all; of a long file
-/// [its beginning](crate::LONGEST_RECORDING) is enough. The `profile` says for how long a bit must be valid. `bytes` must have
-/// [`BYTE_ROOM`](crate::BYTE_ROOM) places or more and `ledger` [`LEDGER_ROOM`](crate::LEDGER_ROOM) or more, whatever the
-/// recording; what they hold at the call does not matter.
+/// [its beginning](crate::LONGEST_RECORDING) is enough. `bytes` must have [`BYTE_ROOM`](crate::BYTE_ROOM) places or more and
+/// `ledger` [`LEDGER_ROOM`](crate::LEDGER_ROOM) or more, whatever the recording; what they hold at the call does not matter.
 ///
 /// A verdict, pass or [fault](JudgeError::Fault), leaves the bytes handed over at the beginning of `bytes`, and for each of
 /// them two ticks at the beginning of `ledger`: where the sender let go of DATA, and where the receiver took it. All further
@@ -28,17 +27,17 @@ use crate::{CommandTransfer, Fault, JudgeError, Profile, Refusal, Transfer, COMP
 /// The buffers are lent, and no memory is taken anywhere:
 ///
 /// ```
-/// use station::{judge, Fault, JudgeError, Profile, BYTE_ROOM, LEDGER_ROOM};
+/// use station::{judge, Fault, JudgeError, BYTE_ROOM, LEDGER_ROOM};
 ///
 /// let (mut bytes, mut ledger) = ([0; BYTE_ROOM], [0; LEDGER_ROOM]);
 /// let recording = include_bytes!("../../../samples/s1.rec");
-/// let transfer = judge(recording, Profile::Standard, &mut bytes, &mut ledger)?;
+/// let transfer = judge(recording, &mut bytes, &mut ledger)?;
 /// assert_eq!(transfer.bytes(), b"A");
 /// assert_eq!((transfer.finish_tick(), transfer.finish_step()), (1910, 24));
 ///
 /// // A fault that came after a byte: the byte is in the buffer, and still it is no pass.
 /// let recording = include_bytes!("../../../samples/s1-attention.rec");
-/// match judge(recording, Profile::Standard, &mut bytes, &mut ledger) {
+/// match judge(recording, &mut bytes, &mut ledger) {
 ///     Ok(_) => unreachable!("ATN was pulled"),
 ///     Err(JudgeError::Refusal { .. }) => unreachable!("the file is of good form"),
 ///     Err(JudgeError::Fault { fault, count, .. }) => {
@@ -46,28 +45,21 @@ use crate::{CommandTransfer, Fault, JudgeError, Profile, Refusal, Transfer, COMP
 ///         assert_eq!(bytes[..count as usize], *b"A");
 ///     }
 /// }
-///
-/// // A bit that is valid for 59 ticks: long enough, but not for a computer with a video chip.
-/// let recording = include_bytes!("../../../samples/s1-valid-59.rec");
-/// assert!(judge(recording, Profile::Standard, &mut bytes, &mut ledger).is_ok());
-/// let error = judge(recording, Profile::VideoChip, &mut bytes, &mut ledger).unwrap_err();
-/// assert_eq!(error, JudgeError::Fault { fault: Fault::ValidTimeShort, tick: 719, step: 7, count: 0 });
 /// # Ok::<(), JudgeError>(())
 /// ```
 pub fn judge<'lent>(
     recording: &[u8],
-    profile: Profile,
     bytes: &'lent mut [u8],
     ledger: &'lent mut [u32],
 ) -> Result<Transfer<'lent>, JudgeError> {
-    judge_by(Entry::Data, recording, profile, bytes, ledger)
+    judge_by(Entry::Data, recording, bytes, ledger)
 }
 
 /// Judges one command transfer: bytes that are sent while ATN is pulled, until the commands are finished, and that say who is
 /// to listen or to talk. `Ok` is a pass, and nothing else is.
 ///
-/// The profile, what is lent, what is left in it, the errors and the panics are as [`judge`]'s. The pass is a type of its own,
-/// and no recording passes both.
+/// What is lent, what is left in it, the errors and the panics are as [`judge`]'s. The pass is a type of its own, and no
+/// recording passes both.
 ///
 /// # Errors
 ///
@@ -80,41 +72,39 @@ pub fn judge<'lent>(
 /// # Examples
 ///
 /// ```
-/// use station::{judge_command, CommandClass, Fault, JudgeError, Profile, BYTE_ROOM, LEDGER_ROOM};
+/// use station::{judge_command, CommandClass, Fault, JudgeError, BYTE_ROOM, LEDGER_ROOM};
 ///
 /// // The computer tells device 8 to listen, on channel 15.
 /// let (mut bytes, mut ledger) = ([0; BYTE_ROOM], [0; LEDGER_ROOM]);
 /// let recording = include_bytes!("../../../samples/commands/drive-addressed.rec");
-/// let commands = judge_command(recording, Profile::Standard, &mut bytes, &mut ledger)?;
+/// let commands = judge_command(recording, &mut bytes, &mut ledger)?;
 /// assert_eq!(commands.bytes(), [0x28, 0x6F]);
 /// assert!(commands.classes().eq([CommandClass::Listen, CommandClass::Secondary]));
 /// assert_eq!((commands.finish_tick(), commands.finish_step()), (2960, 41));
 ///
 /// // A recording of a data transfer, handed to the wrong entry.
 /// let recording = include_bytes!("../../../samples/s1.rec");
-/// let error = judge_command(recording, Profile::Standard, &mut bytes, &mut ledger).unwrap_err();
+/// let error = judge_command(recording, &mut bytes, &mut ledger).unwrap_err();
 /// let fault = Fault::AttentionReleased;
 /// assert_eq!(error, JudgeError::Fault { fault, tick: 0, step: 0, count: 0 });
 /// # Ok::<(), JudgeError>(())
 /// ```
 pub fn judge_command<'lent>(
     recording: &[u8],
-    profile: Profile,
     bytes: &'lent mut [u8],
     ledger: &'lent mut [u32],
 ) -> Result<CommandTransfer<'lent>, JudgeError> {
-    judge_by(Entry::Command, recording, profile, bytes, ledger).map(CommandTransfer)
+    judge_by(Entry::Command, recording, bytes, ledger).map(CommandTransfer)
 }
 
 /// What both entries do.
 fn judge_by<'lent>(
     entry: Entry,
     recording: &[u8],
-    profile: Profile,
     bytes: &'lent mut [u8],
     ledger: &'lent mut [u32],
 ) -> Result<Transfer<'lent>, JudgeError> {
-    let crossed = border::judge(entry, recording, profile, bytes, ledger);
+    let crossed = border::judge(entry, recording, bytes, ledger);
     require_pass(crossed)?;
     let count = crossed.count as usize;
     Ok(Transfer {

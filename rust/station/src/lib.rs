@@ -8,11 +8,11 @@
 //!
 //! ```
 //! # #[cfg(feature = "std")] {
-//! use station::{write_to_vec, Judge, Profile};
+//! use station::{write_to_vec, Judge};
 //!
 //! let mut judge = Judge::new();
 //! let recording = write_to_vec(b"HELLO").expect("a string this short can be written");
-//! match judge.judge(&recording, Profile::Standard) {
+//! match judge.judge(&recording) {
 //!     Ok(transfer) => {
 //!         println!("pass: {}", String::from_utf8_lossy(transfer.bytes()));
 //!         assert_eq!(transfer.bytes(), b"HELLO");
@@ -25,12 +25,10 @@
 //!
 //! // The recording of no bytes ends with a time-out. Nothing was wrong with it, and still it is not a pass.
 //! let silence = write_to_vec(b"").expect("no bytes can be written");
-//! let error = judge.judge(&silence, Profile::Standard).unwrap_err();
+//! let error = judge.judge(&silence).unwrap_err();
 //! assert_eq!((error.number(), error.name()), (21, "empty-stream"));
 //! # }
 //! ```
-//!
-//! A [`Profile`] says for how many ticks a bit must be valid. Where a computer with a video chip is to listen, it is more.
 //!
 //! What is sent while ATN is pulled, to tell who is to listen or to talk, is a command transfer, and has an entry of its own,
 //! [`judge_command()`], with a pass of its own, [`CommandTransfer`]; [`CommandClass`] says what each of its bytes means.
@@ -63,7 +61,6 @@ mod number;
 mod numbers;
 #[cfg(feature = "std")]
 mod owned;
-mod profile;
 mod room;
 mod stop;
 mod transfer;
@@ -78,7 +75,6 @@ pub use judge_error::JudgeError;
 pub use numbers::{Fault, Refusal, TrayRefusal, WriteRefusal, COMPLETE, WRITTEN};
 #[cfg(feature = "std")]
 pub use owned::{write_to_vec, Judge};
-pub use profile::Profile;
 pub use room::{written_length, BYTE_ROOM, LEDGER_ROOM, LONGEST_RECORDING, MOST_BYTES};
 pub use transfer::Transfer;
 pub use unknown_number::UnknownNumber;

@@ -39,7 +39,7 @@ numbers! {
         AcknowledgementLong = 29 "acknowledgement-long": "the receiver held its answer for more than 150 ticks",
         LateClock = 30 "late-clock": "after the receiver's answer the sender pulled CLK later than 60 ticks",
         SenderTimeOut = 31 "sender-time-out": "the sender did not go on within 512 ticks, after bytes were handed over",
-        ValidTimeShort = 32 "valid-time-short": "a bit was valid for fewer ticks than the profile asks, 20 or 60",
+        ValidTimeShort = 32 "valid-time-short": "a bit was valid for fewer than 20 ticks",
         DataMoved = 33 "data-moved": "DATA moved with a bit's CLK release, or while the bit was valid",
         ClockStall = 34 "clock-stall": "a bit's set-up or valid time was longer than 200 ticks",
         ReceiverTimeOut = 35 "receiver-time-out": "a byte was not taken within 1,000 ticks",
@@ -50,7 +50,7 @@ numbers! {
         Overrun = 40 "overrun": "the recorder lost ticks before this step: nothing can be said of the transfer; record it again",
     }
 
-    /// Why the judge refused a recording, or what else it was handed. It says nothing of a drive.
+    /// Why the judge refused a recording, or the memory it was lent. It says nothing of a drive.
     #[non_exhaustive]
     "refusal of the judge" Refusal {
         ShortFile = 1 "short-file": "fewer than 16 bytes",
@@ -62,7 +62,6 @@ numbers! {
         StrayBits = 7 "stray-bits": "a step with line bits beyond the four, or a last byte above 1",
         WrongTotal = 8 "wrong-total": "the total is not the sum of the steps",
         ShortBuffers = 9 "short-buffers": "too little memory was lent",
-        NoSuchProfile = 12 "no-such-profile": "the profile is neither 0 nor 1",
     }
 
     /// Why the writer refused. As an error it reads as its name; [`meaning`](WriteRefusal::meaning) says more.

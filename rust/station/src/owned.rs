@@ -1,7 +1,7 @@
 //! The judge and the writer with memory of their own.
 
 use crate::{judge, judge_command, write, written_length, Handovers};
-use crate::{CommandTransfer, JudgeError, Profile, Transfer, WriteRefusal};
+use crate::{CommandTransfer, JudgeError, Transfer, WriteRefusal};
 use crate::{BYTE_ROOM, LEDGER_ROOM, MOST_BYTES};
 use std::vec;
 use std::vec::Vec;
@@ -9,14 +9,14 @@ use std::vec::Vec;
 /// A judge that owns its buffers, for one recording after another.
 ///
 /// ```
-/// use station::{Fault, Judge, JudgeError, Profile};
+/// use station::{Fault, Judge, JudgeError};
 ///
 /// let mut judge = Judge::new();
-/// let transfer = judge.judge(include_bytes!("../../../samples/s1.rec"), Profile::Standard)?;
+/// let transfer = judge.judge(include_bytes!("../../../samples/s1.rec"))?;
 /// assert_eq!(transfer.bytes(), b"A");
 ///
 /// // A fault that came after a byte.
-/// let error = judge.judge(include_bytes!("../../../samples/s1-attention.rec"), Profile::Standard).unwrap_err();
+/// let error = judge.judge(include_bytes!("../../../samples/s1-attention.rec")).unwrap_err();
 /// assert_eq!(error.name(), "attention");
 /// let before: Vec<u8> = judge.before_fault().map(|handover| handover.byte).collect();
 /// assert_eq!(before, b"A");
@@ -50,12 +50,8 @@ impl Judge {
     /// # Panics
     ///
     /// As [`judge()`] does.
-    pub fn judge(
-        &mut self,
-        recording: &[u8],
-        profile: Profile,
-    ) -> Result<Transfer<'_>, JudgeError> {
-        let judged = judge(recording, profile, &mut self.bytes, &mut self.ledger);
+    pub fn judge(&mut self, recording: &[u8]) -> Result<Transfer<'_>, JudgeError> {
+        let judged = judge(recording, &mut self.bytes, &mut self.ledger);
         self.before_fault = before_fault(&judged);
         judged
     }
@@ -63,16 +59,14 @@ impl Judge {
     /// Judges one command transfer, as [`judge_command()`] does. `Ok` is a pass, and nothing else is.
     ///
     /// ```
-    /// use station::{CommandClass, Judge, Profile};
+    /// use station::{CommandClass, Judge};
     ///
     /// let mut judge = Judge::new();
-    /// let recording = include_bytes!("../../../samples/commands/drive-addressed.rec");
-    /// let commands = judge.judge_command(recording, Profile::Standard)?;
+    /// let commands = judge.judge_command(include_bytes!("../../../samples/commands/drive-addressed.rec"))?;
     /// assert_eq!(commands.bytes(), [0x28, 0x6F]);
     ///
     /// // ATN was released too soon: one byte was handed over before.
-    /// let recording = include_bytes!("../../../samples/commands/last-hold-99.rec");
-    /// let error = judge.judge_command(recording, Profile::Standard).unwrap_err();
+    /// let error = judge.judge_command(include_bytes!("../../../samples/commands/last-hold-99.rec")).unwrap_err();
     /// assert_eq!(error.name(), "attention-released");
     /// let before: Vec<CommandClass> = judge.before_fault().map(|handover| CommandClass::of(handover.byte)).collect();
     /// assert_eq!(before, [CommandClass::Listen]);
@@ -86,12 +80,8 @@ impl Judge {
     /// # Panics
     ///
     /// As [`judge_command()`] does.
-    pub fn judge_command(
-        &mut self,
-        recording: &[u8],
-        profile: Profile,
-    ) -> Result<CommandTransfer<'_>, JudgeError> {
-        let judged = judge_command(recording, profile, &mut self.bytes, &mut self.ledger);
+    pub fn judge_command(&mut self, recording: &[u8]) -> Result<CommandTransfer<'_>, JudgeError> {
+        let judged = judge_command(recording, &mut self.bytes, &mut self.ledger);
         self.before_fault = before_fault(&judged);
         judged
     }
@@ -120,10 +110,10 @@ impl Default for Judge {
 /// The sample recording of `bytes`, as [`write()`] writes it.
 ///
 /// ```
-/// use station::{write_to_vec, Judge, Profile};
+/// use station::{write_to_vec, Judge};
 ///
 /// let recording = write_to_vec(b"HELLO")?;
-/// assert_eq!(Judge::new().judge(&recording, Profile::Standard)?.bytes(), b"HELLO");
+/// assert_eq!(Judge::new().judge(&recording)?.bytes(), b"HELLO");
 /// # Ok::<(), Box<dyn std::error::Error>>(())
 /// ```
 ///

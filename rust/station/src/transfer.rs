@@ -24,11 +24,11 @@ impl<'lent> Transfer<'lent> {
     /// The bytes handed over, each with its two ticks.
     ///
     /// ```
-    /// use station::{judge, Handover, Profile, BYTE_ROOM, LEDGER_ROOM};
+    /// use station::{judge, Handover, BYTE_ROOM, LEDGER_ROOM};
     ///
     /// let recording = include_bytes!("../../../samples/s1.rec");
     /// let (mut bytes, mut ledger) = ([0; BYTE_ROOM], [0; LEDGER_ROOM]);
-    /// let transfer = judge(recording, Profile::Standard, &mut bytes, &mut ledger)?;
+    /// let transfer = judge(recording, &mut bytes, &mut ledger)?;
     /// for Handover { byte, let_go, take } in transfer.handovers() {
     ///     println!("{byte:02x}, taken {} ticks after it was let go", take - let_go);
     /// }

@@ -1,6 +1,6 @@
 //! The command entry as a program uses it: a pass, faults, refusals, both entries on the same recordings, and the classes.
 
-use station::{judge, judge_command, CommandClass, Fault, Handover, JudgeError, Profile, Refusal};
+use station::{judge, judge_command, CommandClass, Fault, Handover, JudgeError, Refusal};
 use station::{BYTE_ROOM, LEDGER_ROOM};
 
 /// What the lent places hold before a call.
@@ -17,7 +17,7 @@ const TABLE: &str = include_str!("../../../docs/RULES.md");
 #[test]
 fn a_pass_has_the_bytes_their_ticks_and_their_classes() {
     let (mut bytes, mut ledger) = (BYTES, LEDGER);
-    let commands = judge_command(ADDRESSED, Profile::Standard, &mut bytes, &mut ledger).unwrap();
+    let commands = judge_command(ADDRESSED, &mut bytes, &mut ledger).unwrap();
     assert_eq!(commands.bytes(), [0x28, 0x6F]);
     assert_eq!((commands.finish_tick(), commands.finish_step()), (2960, 41));
     let handover = |byte, let_go, take| Handover { byte, let_go, take };
@@ -34,7 +34,7 @@ fn a_pass_has_the_bytes_their_ticks_and_their_classes() {
 fn a_fault_after_a_byte_leaves_the_byte_and_is_an_error() {
     let (mut bytes, mut ledger) = (BYTES, LEDGER);
     let recording = include_bytes!("../../../samples/commands/silence-200.rec");
-    let error = judge_command(recording, Profile::Standard, &mut bytes, &mut ledger).unwrap_err();
+    let error = judge_command(recording, &mut bytes, &mut ledger).unwrap_err();
     let due = JudgeError::Fault {
         fault: Fault::EndMarkUnderAttention,
         tick: 1829,
@@ -58,7 +58,7 @@ fn a_mark_before_the_handover_leaves_out_the_byte_that_waits() {
             step,
             count,
         };
-        let judged = judge_command(&recording, Profile::Standard, &mut bytes, &mut ledger);
+        let judged = judge_command(&recording, &mut bytes, &mut ledger);
         assert_eq!(judged, Err(due));
     }
     assert_eq!((bytes[0], &ledger[..2]), (0x28, &[1350, 1380][..]));
@@ -72,12 +72,12 @@ fn a_refusal_changes_nothing() {
     stray[16 + 4 * 3 + 3] = 2;
     let refused = |refusal, step| Err(JudgeError::Refusal { refusal, step });
     assert_eq!(
-        judge_command(&stray, Profile::Standard, &mut bytes, &mut ledger),
+        judge_command(&stray, &mut bytes, &mut ledger),
         refused(Refusal::StrayBits, 3)
     );
     let short = &mut bytes[..BYTE_ROOM - 1];
     assert_eq!(
-        judge_command(ADDRESSED, Profile::Standard, short, &mut ledger),
+        judge_command(ADDRESSED, short, &mut ledger),
         refused(Refusal::ShortBuffers, 0)
     );
     assert_eq!((bytes, ledger), (BYTES, LEDGER));
@@ -92,9 +92,9 @@ fn a_recording_at_the_wrong_entry_is_an_error_at_its_first_tick() {
         count: 0,
     };
     let (mut bytes, mut ledger) = (BYTES, LEDGER);
-    let data = judge_command(S1, Profile::Standard, &mut bytes, &mut ledger);
+    let data = judge_command(S1, &mut bytes, &mut ledger);
     assert_eq!(data, Err(at_once(Fault::AttentionReleased)));
-    let commands = judge(ADDRESSED, Profile::Standard, &mut bytes, &mut ledger);
+    let commands = judge(ADDRESSED, &mut bytes, &mut ledger);
     assert_eq!(commands, Err(at_once(Fault::Attention)));
     assert_eq!((bytes, ledger), (BYTES, LEDGER));
 }

@@ -1,6 +1,6 @@
 //! The judge as a program uses it: a pass, faults, refusals, and what each leaves in lent memory.
 
-use station::{judge, write, written_length, Fault, Handover, JudgeError, Profile, Refusal};
+use station::{judge, write, written_length, Fault, Handover, JudgeError, Refusal};
 use station::{BYTE_ROOM, LEDGER_ROOM, LONGEST_RECORDING};
 
 /// What the lent places hold before a call.
@@ -12,7 +12,7 @@ fn a_pass_has_the_bytes_and_the_ticks_that_were_left() {
     let (mut bytes, mut ledger) = (BYTES, LEDGER);
     let mut recording = [0; written_length(5)];
     write(b"HELLO", &mut recording).unwrap();
-    let transfer = judge(&recording, Profile::Standard, &mut bytes, &mut ledger).unwrap();
+    let transfer = judge(&recording, &mut bytes, &mut ledger).unwrap();
     assert_eq!(transfer.bytes(), b"HELLO");
     let all: Vec<Handover> = transfer.handovers().collect();
 
@@ -36,7 +36,7 @@ fn a_pass_has_the_bytes_and_the_ticks_that_were_left() {
 fn a_fault_after_a_byte_leaves_the_byte_and_is_an_error() {
     let (mut bytes, mut ledger) = (BYTES, LEDGER);
     let recording = include_bytes!("../../../samples/s1-attention.rec");
-    let error = judge(recording, Profile::Standard, &mut bytes, &mut ledger).unwrap_err();
+    let error = judge(recording, &mut bytes, &mut ledger).unwrap_err();
     let fault = Fault::Attention;
     assert_eq!(
         error,
@@ -55,7 +55,7 @@ fn a_mark_is_an_error_at_its_step_and_says_what_to_do() {
     let (mut bytes, mut ledger) = (BYTES, LEDGER);
     let mut recording = *include_bytes!("../../../samples/s1.rec");
     recording[16 + 4 * 24 + 3] = 1;
-    let error = judge(&recording, Profile::Standard, &mut bytes, &mut ledger).unwrap_err();
+    let error = judge(&recording, &mut bytes, &mut ledger).unwrap_err();
     let due = JudgeError::Fault {
         fault: Fault::Overrun,
         tick: 1910,
@@ -81,16 +81,16 @@ fn a_refusal_changes_nothing() {
     stray[16 + 4 * 3 + 3] = 2;
     let refused = |refusal, step| Err(JudgeError::Refusal { refusal, step });
     assert_eq!(
-        judge(&stray, Profile::Standard, &mut bytes, &mut ledger),
+        judge(&stray, &mut bytes, &mut ledger),
         refused(Refusal::StrayBits, 3)
     );
     assert_eq!(
-        judge(b"", Profile::Standard, &mut bytes, &mut ledger),
+        judge(b"", &mut bytes, &mut ledger),
         refused(Refusal::ShortFile, 0)
     );
     let short = &mut ledger[..LEDGER_ROOM - 1];
     assert_eq!(
-        judge(s1, Profile::Standard, &mut bytes, short),
+        judge(s1, &mut bytes, short),
         refused(Refusal::ShortBuffers, 0)
     );
     assert_eq!((bytes, ledger), (BYTES, LEDGER));
@@ -100,11 +100,7 @@ fn a_refusal_changes_nothing() {
 fn an_error_goes_where_errors_go() {
     fn passes(recording: &[u8]) -> Result<usize, Box<dyn std::error::Error + Send + Sync>> {
         let (mut bytes, mut ledger) = (BYTES, LEDGER);
-        Ok(
-            judge(recording, Profile::Standard, &mut bytes, &mut ledger)?
-                .bytes()
-                .len(),
-        )
+        Ok(judge(recording, &mut bytes, &mut ledger)?.bytes().len())
     }
     assert_eq!(
         passes(include_bytes!("../../../samples/s1.rec")).unwrap(),
@@ -125,15 +121,7 @@ fn longest() -> Vec<u8> {
 
 #[test]
 fn a_file_longer_than_the_longest_recording_is_answered_by_its_beginning() {
-    let answer = |file: &[u8]| {
-        judge(
-            file,
-            Profile::Standard,
-            &mut BYTES.clone(),
-            &mut LEDGER.clone(),
-        )
-        .unwrap_err()
-    };
+    let answer = |file: &[u8]| judge(file, &mut BYTES.clone(), &mut LEDGER.clone()).unwrap_err();
     let mut file = longest();
     assert_eq!(file.len(), LONGEST_RECORDING);
     assert_eq!(answer(&file).name(), "cut");

@@ -1,6 +1,6 @@
 //! The numbers: by value, by name, in words, and as the repository's table has them.
 
-use station::{CommandClass, Fault, Profile, Refusal, TrayRefusal, UnknownNumber, WriteRefusal};
+use station::{CommandClass, Fault, Refusal, TrayRefusal, UnknownNumber, WriteRefusal};
 use station::{COMPLETE, WRITTEN};
 use std::fmt::{Debug, Display};
 use std::str::FromStr;
@@ -81,23 +81,6 @@ fn a_number_is_found_by_its_value_and_its_name() {
         "class of command bytes",
         CommandClass::number,
     );
-}
-
-#[test]
-fn a_profile_is_found_by_its_number_and_no_other_number_becomes_one() {
-    assert_eq!(Profile::ALL, [Profile::Standard, Profile::VideoChip]);
-    for (number, &profile) in (0..).zip(Profile::ALL) {
-        assert_eq!(profile.number(), number);
-        assert_eq!(Profile::try_from(number), Ok(profile));
-    }
-    let above = (0..32).flat_map(|bit| [1 << bit, 1 + (1 << bit)]);
-    for value in above.chain(2..300).filter(|value| *value > 1) {
-        let error: Box<dyn std::error::Error> = Profile::try_from(value).unwrap_err().into();
-        assert_eq!(
-            error.to_string(),
-            format!("no profile has the number {value}")
-        );
-    }
 }
 
 #[test]

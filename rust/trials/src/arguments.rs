@@ -6,12 +6,12 @@ use crate::classes::named;
 pub const USAGE: &str = "usage: differential [COUNT] [SEED]
        differential --case SEED CLASS
 
-Compares the station's judge, by both of its entries and both profiles, and its writer, through the border, with another
-judge and writer, on COUNT drawn cases (1,000,000 if not given), and holds what they leave to the two parties' own rules.
-With --case it draws one case again and prints it.
+Compares the station's judge, by both of its entries, and its writer, through the border, with another judge and writer,
+on COUNT drawn cases (1,000,000 if not given), and holds what they leave to the two parties' own rules. With --case it
+draws one case again and prints it.
 
-Exit status: 0 only if there was no difference and every number, every place of a mark and every way in which the two
-profiles part came up at each entry that has it, the numbers by each profile; 1 otherwise; 2 for wrong usage.";
+Exit status: 0 only if there was no difference and every number, and every place of a mark, came up at each entry that
+has it; 1 otherwise; 2 for wrong usage.";
 
 /// How many cases there are if it is not said.
 const COUNT: u64 = 1_000_000;

@@ -2,7 +2,7 @@
 
 use crate::entry::Entry;
 use parties::draw::{self, Style};
-use parties::{check_pair, file_of, ticks_of, Kind, Pair, Profile, Random, Step, Transfer};
+use parties::{check_pair, file_of, ticks_of, Kind, Pair, Random, Step, Transfer};
 use station::{Fault, Refusal};
 
 /// What must come of a case, besides both judges agreeing.
@@ -38,8 +38,6 @@ pub enum Expected {
 pub struct Case {
     /// The entry that the recording is handed to.
     pub entry: Entry,
-    /// The profile that it is judged by.
-    pub profile: Profile,
     /// A recording's steps, before they are put into a file.
     pub steps: Vec<Step>,
     /// The recording.
@@ -59,11 +57,11 @@ pub struct Case {
 }
 
 impl Case {
-    /// Draws a transfer of `count` bytes for the case's entry. It keeps every rule of the case's profile.
+    /// Draws a transfer of `count` bytes for the case's entry. It keeps every rule.
     pub fn draw_transfer(&mut self, random: &mut Random, count: usize, style: Style) {
         self.transfer = match self.entry {
-            Entry::Data => draw::transfer(random, count, style, self.profile),
-            Entry::Command => draw::command(random, count, style, self.profile),
+            Entry::Data => draw::transfer(random, count, style),
+            Entry::Command => draw::command(random, count, style),
         };
     }
 
@@ -76,7 +74,7 @@ impl Case {
 
     /// Expects what the parties' rules say of the transfer: if it keeps them all, it is complete.
     pub fn expect_by_the_rules(&mut self) {
-        if check_pair(&self.pair, &self.string, self.profile).is_ok() {
+        if check_pair(&self.pair, &self.string).is_ok() {
             self.expected = Expected::CompleteByTicks;
         }
     }

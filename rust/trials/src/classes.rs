@@ -14,7 +14,7 @@ mod written;
 
 use crate::case::Case;
 use crate::entry::Entry;
-use parties::{Profile, Random};
+use parties::Random;
 
 /// What a class draws.
 #[derive(Clone, Copy, PartialEq, Eq)]
@@ -33,7 +33,7 @@ pub struct Class {
     pub share: u32,
     /// What it draws.
     pub kind: Kind,
-    /// Draws a case, into one that is empty but for its entry and its profile.
+    /// Draws a case, into one that is empty but for its entry.
     draw: fn(&mut Random, &mut Case),
 }
 
@@ -79,11 +79,10 @@ pub fn draw_class(random: &mut Random) -> usize {
     unreachable!("the shares add up to a thousand")
 }
 
-/// Draws a case of the class at that place: first its entry and its profile, each as often as the other.
+/// Draws a case of the class at that place: its entry first, each as often as the other.
 pub fn draw_case(random: &mut Random, class: usize) -> Case {
     let mut case = Case {
         entry: random.pick(&Entry::ALL),
-        profile: random.pick(&Profile::ALL),
         ..Case::default()
     };
     (CLASSES[class].draw)(random, &mut case);
@@ -111,7 +110,6 @@ mod tests {
             for seed in 0..20 {
                 let [once, again] = [0; 2].map(|_| draw_case(&mut Random::new(seed), place));
                 assert_eq!(once.entry, again.entry, "{} {seed}", class.name);
-                assert_eq!(once.profile, again.profile, "{} {seed}", class.name);
                 assert_eq!(once.file, again.file, "{} {seed}", class.name);
                 assert_eq!(once.string, again.string, "{} {seed}", class.name);
             }

@@ -1,10 +1,10 @@
 //! The entry that a recording is handed to. It is part of a case.
 
 use by_steps::Answer;
-use station::{Fault, Refusal};
+use station::Fault;
 
-/// A judge: asked by the number of a profile, and lent a recording, a byte buffer and a ledger, it answers.
-pub type Judge = fn(&[u8], u32, &mut [u8], &mut [u32]) -> Answer;
+/// A judge: lent a recording, a byte buffer and a ledger, it answers.
+pub type Judge = fn(&[u8], &mut [u8], &mut [u32]) -> Answer;
 
 /// The ATN bit of a step's lines.
 pub const ATTENTION: u8 = 1;
@@ -31,8 +31,6 @@ const OF_DATA: [Fault; 7] = [
 ];
 /// Faults that #101 adds.
 const OF_COMMANDS: [Fault; 2] = [Fault::EndMarkUnderAttention, Fault::AttentionReleased];
-/// What none of the profiles that can be asked by in Rust is refused as.
-const NO_SUCH_PROFILE: u32 = Refusal::NoSuchProfile.number();
 
 impl Entry {
     /// Both.
@@ -92,6 +90,6 @@ impl Entry {
             Entry::Data => &OF_COMMANDS,
             Entry::Command => &OF_DATA,
         };
-        number != NO_SUCH_PROFILE && foreign.iter().all(|fault| fault.number() != number)
+        foreign.iter().all(|fault| fault.number() != number)
     }
 }

@@ -1,6 +1,5 @@
 //! Where the first mark of a recording fell.
 
-use crate::counts::Listed;
 use crate::entry::Entry;
 
 /// Where it fell: request #103 has it "also in E, at tick 0 and after #101's finish".
@@ -30,10 +29,9 @@ pub enum Fell {
     LastByte255,
 }
 
-impl Listed for Fell {
-    const WHAT: &'static str = "mark";
-
-    const ALL: &'static [Fell] = &[
+impl Fell {
+    /// All, in the order in which they are printed.
+    pub const ALL: [Fell; 11] = [
         Fell::AtTick0,
         Fell::AtTheStart,
         Fell::BetweenBytes,
@@ -47,7 +45,8 @@ impl Listed for Fell {
         Fell::LastByte255,
     ];
 
-    fn name(self) -> &'static str {
+    /// Its name, as the program prints it.
+    pub fn name(self) -> &'static str {
         match self {
             Fell::AtTick0 => "at tick 0",
             Fell::AtTheStart => "at the start",
@@ -63,7 +62,8 @@ impl Listed for Fell {
         }
     }
 
-    fn is_for(self, entry: Entry) -> bool {
+    /// Whether a recording for this entry may have one there.
+    pub fn is_for(self, entry: Entry) -> bool {
         match self {
             Fell::AfterTheEnd => entry == Entry::Data,
             Fell::AfterTheFinish => entry == Entry::Command,

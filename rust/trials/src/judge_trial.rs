@@ -1,4 +1,4 @@
-//! One recording judged by the case's entry and profile, through the border and by the other judge.
+//! One recording judged by the case's entry, through the border and by the other judge.
 
 use crate::case::{Case, Expected};
 use crate::entry::Entry;
@@ -6,11 +6,9 @@ use crate::fell::Fell;
 use crate::judge_memory::{JudgeMemory, Places};
 use crate::mark::check_mark;
 use crate::outcome::{same, same_answer, Outcome};
-use crate::parted::Parted;
 use crate::place::check_place;
-use crate::profiles::{check_profiles, Judged};
 use by_steps::Answer;
-use parties::{check_shown_command, check_shown_pair, Profile, Random};
+use parties::{check_shown_command, check_shown_pair, Random};
 use station::{Fault, Refusal, BYTE_ROOM, COMPLETE, LEDGER_ROOM};
 use trials::name_of;
 
@@ -21,8 +19,6 @@ pub struct JudgeTrial {
     pub shown_pairs: u64,
     /// Where the first mark of the latest recording fell.
     pub fell: Option<Fell>,
-    /// Where the answers to it by the two profiles part.
-    pub parted: Option<Parted>,
 }
 
 impl JudgeTrial {
@@ -32,24 +28,21 @@ impl JudgeTrial {
             memory: JudgeMemory::new(),
             shown_pairs: 0,
             fell: None,
-            parted: None,
         }
     }
 
     /// Judges the case's recording twice and compares all there is to compare.
     pub fn run(&mut self, random: &mut Random, case: &Case) -> Outcome {
-        (self.fell, self.parted) = (None, None);
+        self.fell = None;
         let memory = &mut self.memory;
         let places = memory.lend(random, &case.file);
         let answer = case.entry.judge()(
             memory.recording.part(places.recording),
-            case.profile.number(),
             memory.bytes.part_mut(places.bytes),
             memory.ledger.part_mut(places.ledger),
         );
         let other = case.entry.other_judge()(
             &case.file,
-            case.profile.number(),
             memory.other_bytes.part_mut(places.bytes),
             memory.other_ledger.part_mut(places.ledger),
         );
@@ -58,7 +51,6 @@ impl JudgeTrial {
             .and_then(|()| check_entry(answer, case))
             .and_then(|()| check_place(case.entry, answer, &case.file))
             .and_then(|()| self.check_mark(answer, places, case))
-            .and_then(|()| self.check_profiles(answer, places, case))
             .and_then(|()| self.check_shown(answer, places, case))
             .and_then(|()| self.check_expected(answer, places, case));
         Outcome {
@@ -71,33 +63,7 @@ impl JudgeTrial {
     /// Request #103 on every recording.
     fn check_mark(&mut self, answer: Answer, places: Places, case: &Case) -> Result<(), String> {
         let left = self.memory.left(answer, places);
-        self.fell = check_mark(case.entry, case.profile, answer, left, &case.file)?;
-        Ok(())
-    }
-
-    /// Request #104 on every recording for which enough was lent: it is judged by the other profile too.
-    fn check_profiles(
-        &mut self,
-        answer: Answer,
-        places: Places,
-        case: &Case,
-    ) -> Result<(), String> {
-        if !places.enough {
-            return Ok(());
-        }
-        let own = Judged::new(answer, self.memory.left(answer, places));
-        let other = |profile| Judged::by(case.entry, profile, &case.file);
-        let parted = match case.profile {
-            Profile::Standard => {
-                let video_chip = other(Profile::VideoChip)?;
-                check_profiles(case.entry, [&own, &video_chip], &case.file)
-            }
-            Profile::VideoChip => {
-                let standard = other(Profile::Standard)?;
-                check_profiles(case.entry, [&standard, &own], &case.file)
-            }
-        };
-        self.parted = Some(parted?);
+        self.fell = check_mark(case.entry, answer, left, &case.file)?;
         Ok(())
     }
 
@@ -112,7 +78,7 @@ impl JudgeTrial {
             Entry::Data => check_shown_pair,
             Entry::Command => check_shown_command,
         };
-        let checked = check(&case.file, string, ledger, case.profile);
+        let checked = check(&case.file, string, ledger);
         checked.map_err(|error| format!("the shown pair: {error}"))
     }
 
@@ -151,7 +117,7 @@ impl JudgeTrial {
     }
 }
 
-/// The number is one that the entry may give, and no recording passes both entries, by any profile: by 0 all do that do by 1.
+/// The number is one that the entry may give, and no recording passes both entries.
 fn check_entry(answer: Answer, case: &Case) -> Result<(), String> {
     if !case.entry.gives(answer.number) {
         return Err("the entry has no such number".to_string());
@@ -160,12 +126,7 @@ fn check_entry(answer: Answer, case: &Case) -> Result<(), String> {
         return Ok(());
     }
     let judge = case.entry.other().judge();
-    let again = judge(
-        &case.file,
-        Profile::Standard.number(),
-        &mut [0; BYTE_ROOM],
-        &mut [0; LEDGER_ROOM],
-    );
+    let again = judge(&case.file, &mut [0; BYTE_ROOM], &mut [0; LEDGER_ROOM]);
     if again.number == COMPLETE {
         return Err("it passes both entries".to_string());
     }

@@ -3,22 +3,17 @@
 #![forbid(unsafe_code)]
 
 use by_steps::Answer;
-use station::{CommandClass, Fault, JudgeError, Profile, Refusal, WriteRefusal, COMPLETE, WRITTEN};
+use station::{CommandClass, Fault, JudgeError, Refusal, WriteRefusal, COMPLETE, WRITTEN};
 
-/// [`station::judge`], by the profile of that number.
-pub fn judge(recording: &[u8], profile: u32, bytes: &mut [u8], ledger: &mut [u32]) -> Answer {
-    let judged = station::judge(recording, known(profile), bytes, ledger);
+/// [`station::judge`].
+pub fn judge(recording: &[u8], bytes: &mut [u8], ledger: &mut [u32]) -> Answer {
+    let judged = station::judge(recording, bytes, ledger);
     answer_of(judged.map(|data| (data.finish_tick(), data.finish_step(), data.bytes().len())))
 }
 
-/// [`station::judge_command`], by the profile of that number.
-pub fn judge_command(
-    recording: &[u8],
-    profile: u32,
-    bytes: &mut [u8],
-    ledger: &mut [u32],
-) -> Answer {
-    let judged = station::judge_command(recording, known(profile), bytes, ledger);
+/// [`station::judge_command`].
+pub fn judge_command(recording: &[u8], bytes: &mut [u8], ledger: &mut [u32]) -> Answer {
+    let judged = station::judge_command(recording, bytes, ledger);
     answer_of(judged.map(|commands| {
         (
             commands.finish_tick(),
@@ -26,11 +21,6 @@ pub fn judge_command(
             commands.bytes().len(),
         )
     }))
-}
-
-/// The profile of that number. A program in Rust can ask by no other: that it is refused as 12 is tried from C.
-fn known(number: u32) -> Profile {
-    Profile::try_from(number).expect("the trials ask by the library's own profiles")
 }
 
 /// A pass with its finish tick, step and count, or an error. A refusal has no tick and no count: `station` stops the program

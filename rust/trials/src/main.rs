@@ -2,16 +2,14 @@
 //! station calls them, against `by_steps`, another judge and writer made from the user's papers alone, and against the
 //! parties' own rules.
 //!
-//! A *case* is one recording to judge, by one of the judge's entries and one profile, or one string to write, drawn by a *class*
-//! from a seed of its own.
+//! A *case* is one recording to judge, by one of the judge's entries, or one string to write, drawn by a *class* from a seed of
+//! its own.
 
 #![forbid(unsafe_code)]
 
 mod arguments;
 mod case;
 mod classes;
-mod clock;
-mod counts;
 mod edit;
 mod entry;
 mod fell;
@@ -20,9 +18,7 @@ mod judge_trial;
 mod lent;
 mod mark;
 mod outcome;
-mod parted;
 mod place;
-mod profiles;
 mod report;
 mod run;
 mod tally;

@@ -1,22 +1,26 @@
 //! Marked steps: "its last byte is 1". What is due of a mark is told by request #103 and by the answer to the steps before it,
 //! and by no judge of marks.
 
-use crate::clock::{binding, CLOCK, PULLS};
-use crate::entry::Entry;
+use crate::entry::{Entry, ATTENTION};
 use crate::fell::Fell;
 use crate::outcome::same;
 use by_steps::Answer;
-use parties::{file_of, steps_of, ticks_of, Profile, Step, MARKED};
+use parties::{file_of, steps_of, ticks_of, Step, MARKED};
 use station::{Fault, Refusal, BYTE_ROOM, COMPLETE, LEDGER_ROOM};
 
 const CUT: u32 = Fault::Cut.number();
 const OVERRUN: u32 = Fault::Overrun.number();
 const STRAY_BITS: u32 = Refusal::StrayBits.number();
 
-/// The DATA bit of a step's lines.
+/// The CLK bit of a step's lines.
+const CLOCK: u8 = 2;
+/// The DATA bit.
 const DATA: u8 = 4;
 /// The bits that are no line's.
 const NO_LINE: u8 = 0xF0;
+
+/// The CLK pulls of a byte: one for each set-up, and one after bit 8.
+const PULLS: usize = 9;
 
 /// Where the last byte of a step stands in the file.
 pub fn last_byte_at(step: usize) -> usize {
@@ -34,7 +38,6 @@ pub fn first_step(file: &[u8], is_so: impl Fn(u8) -> bool) -> Option<usize> {
 /// end. Without a marked step nothing is 40. `left` is what was left of the lent string and ledger. Gives where the mark fell.
 pub fn check_mark(
     entry: Entry,
-    profile: Profile,
     answer: Answer,
     left: (&[u8], &[u32]),
     file: &[u8],
@@ -45,24 +48,19 @@ pub fn check_mark(
     match (first_step(file, |last| last == MARKED), answer.number) {
         (None, OVERRUN) => Err("no step is marked, and it is 40".to_string()),
         (None, _) => Ok(None),
-        (Some(place), _) => {
-            let before = &steps_of(file)[..place];
-            check_marked(entry, profile, answer, left, before).map(Some)
-        }
+        (Some(place), _) => check_marked(entry, answer, left, &steps_of(file)[..place]).map(Some),
     }
 }
 
 /// The same for a marked recording, of which these are the steps before its first mark.
 fn check_marked(
     entry: Entry,
-    profile: Profile,
     answer: Answer,
     left: (&[u8], &[u32]),
     before: &[Step],
 ) -> Result<Fell, String> {
     let (mut bytes, mut ledger) = ([0; BYTE_ROOM], [0; LEDGER_ROOM]);
-    let file = file_of(before);
-    let alone = entry.judge()(&file, profile.number(), &mut bytes, &mut ledger);
+    let alone = entry.judge()(&file_of(before), &mut bytes, &mut ledger);
     let count = alone.count as usize;
     same(
         left.0,
@@ -108,10 +106,14 @@ fn refused(answer: Answer, file: &[u8]) -> Option<Fell> {
 /// Where a transfer that is right so far has come to after these steps, and how many bytes have been handed over: told from
 /// the lines, by counting CLK pulls. There is one from tick 0 on, and nine for each byte.
 fn fell(entry: Entry, is_complete: bool, before: &[Step]) -> (Fell, usize) {
+    let bound = match entry {
+        Entry::Data => before,
+        Entry::Command => until_the_finish(before),
+    };
     let Some(latest) = before.last() else {
         return (Fell::AtTick0, 0);
     };
-    let pulls = clock_pulls(binding(entry, before)).saturating_sub(1);
+    let pulls = clock_pulls(bound).saturating_sub(1);
     let (whole, inside) = (pulls / PULLS, pulls % PULLS);
     if is_complete {
         return match entry {
@@ -127,6 +129,12 @@ fn fell(entry: Entry, is_complete: bool, before: &[Step]) -> (Fell, usize) {
         (0, true) if data => (Fell::WithAByteWaiting, whole - 1),
         (0, true) => (Fell::InAnOpenHandover, whole - 1),
     }
+}
+
+/// The steps of commands before their finish: CLK is free after it.
+fn until_the_finish(steps: &[Step]) -> &[Step] {
+    let pulled = |step: &&Step| step.lines & ATTENTION != 0;
+    &steps[..steps.iter().take_while(pulled).count()]
 }
 
 /// How often CLK is pulled.
@@ -167,7 +175,6 @@ mod tests {
         let count = answer.count as usize;
         check_mark(
             entry,
-            Profile::Standard,
             answer,
             (&string[..count], &ledger[..2 * count]),
             file,

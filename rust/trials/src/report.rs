@@ -21,12 +21,10 @@ pub struct Name {
 pub fn print(name: Name, case: &Case, what: &str, outcome: &Outcome) {
     let class = &CLASSES[name.class];
     let (ours, other) = (&outcome.answer, &outcome.other);
+    let entry = case.entry.name();
     println!(
-        "differential --case {} {}: {what}, entry for {}, profile {}",
-        name.seed,
-        class.name,
-        case.entry.name(),
-        case.profile.number()
+        "differential --case {} {}: {what}, entry for {entry}",
+        name.seed, class.name
     );
     if let Err(wrong) = &outcome.wrong {
         println!("  DIFFERENT: {wrong}");

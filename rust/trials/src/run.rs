@@ -68,10 +68,8 @@ impl Trials {
         }
         if class.kind == Kind::Recording || !case.file.is_empty() {
             let outcome = self.judge.run(&mut random, &case);
-            let number = outcome.answer.number;
-            self.tally.count_judged(case.entry, case.profile, number);
-            self.tally.marks.count(case.entry, self.judge.fell);
-            self.tally.parted.count(case.entry, self.judge.parted);
+            self.tally.count_judged(case.entry, outcome.answer.number);
+            self.tally.count_mark(case.entry, self.judge.fell);
             different |= self.look_at(name, &case, "judged", &outcome);
         }
         self.tally.differences += u64::from(different);

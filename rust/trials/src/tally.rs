@@ -1,39 +1,34 @@
 //! How often each number came up, and what was different.
 
 use crate::classes::CLASSES;
-use crate::counts::Counts;
 use crate::entry::Entry;
 use crate::fell::Fell;
-use crate::parted::Parted;
-use parties::Profile;
 use station::{WriteRefusal, WRITTEN};
 use std::collections::HashMap;
 use trials::numbers;
 
-/// From how many cases on every number must have come up, every place of a mark, and every way in which the profiles part.
-const ENOUGH: u64 = 20_000;
+/// From how many cases on every number must have come up, and every place of a mark.
+const ENOUGH: u64 = 10_000;
 
 /// Who answered.
 #[derive(Clone, Copy, PartialEq, Eq)]
 enum By {
-    Judge(Entry, Profile),
+    Entry(Entry),
     Writer,
 }
 
 /// Everyone, in the order of the columns.
-const ALL: [By; 5] = [
-    By::Judge(Entry::Data, Profile::Standard),
-    By::Judge(Entry::Data, Profile::VideoChip),
-    By::Judge(Entry::Command, Profile::Standard),
-    By::Judge(Entry::Command, Profile::VideoChip),
+const ALL: [By; 3] = [
+    By::Entry(Entry::Data),
+    By::Entry(Entry::Command),
     By::Writer,
 ];
 
 impl By {
-    fn name(self) -> String {
+    fn name(self) -> &'static str {
         match self {
-            By::Judge(entry, profile) => format!("{} {}", entry.name(), profile.number()),
-            By::Writer => "written".to_string(),
+            By::Entry(entry) => entry.name(),
+            By::Writer => "written",
         }
     }
 
@@ -41,7 +36,7 @@ impl By {
     fn gives(self, number: u32) -> bool {
         let writers = number == WRITTEN || WriteRefusal::try_from(number).is_ok();
         match self {
-            By::Judge(entry, _) => !writers && entry.gives(number),
+            By::Entry(entry) => !writers && entry.gives(number),
             By::Writer => writers,
         }
     }
@@ -53,10 +48,8 @@ pub struct Tally {
     /// How often each number came up, by the columns.
     numbers: HashMap<u32, [u64; ALL.len()]>,
     classes: [u64; CLASSES.len()],
-    /// How often the first mark of a recording fell where.
-    pub marks: Counts<Fell>,
-    /// How often the answers by the two profiles part where.
-    pub parted: Counts<Parted>,
+    /// How often the first mark fell where, by the entries.
+    marks: [[u64; Entry::ALL.len()]; Fell::ALL.len()],
     /// How many shown pairs were held to the parties' rules.
     pub shown_pairs: u64,
     /// How many command bytes have different classes.
@@ -71,9 +64,18 @@ impl Tally {
         self.classes[class] += 1;
     }
 
-    /// Counts an answer of the library's judge by this entry and profile.
-    pub fn count_judged(&mut self, entry: Entry, profile: Profile, number: u32) {
-        self.count(By::Judge(entry, profile), number);
+    /// Counts an answer of the library's judge by this entry.
+    pub fn count_judged(&mut self, entry: Entry, number: u32) {
+        self.count(By::Entry(entry), number);
+    }
+
+    /// Counts a recording for this entry by where its first mark fell.
+    pub fn count_mark(&mut self, entry: Entry, fell: Option<Fell>) {
+        for (times, one) in self.marks.iter_mut().zip(Fell::ALL) {
+            for (times, by) in times.iter_mut().zip(Entry::ALL) {
+                *times += u64::from(fell == Some(one) && by == entry);
+            }
+        }
     }
 
     /// Counts an answer of the library's writer.
@@ -98,7 +100,7 @@ impl Tally {
         std::array::from_fn(|place| self.numbers.values().map(|times| times[place]).sum())
     }
 
-    /// The numbers, the places of a mark and the ways to part that never came up where they may, and where.
+    /// The numbers, and the places of a mark, that never came up where they may, and where.
     fn missing(&self) -> Vec<String> {
         let mut missing = Vec::new();
         for (number, name) in numbers() {
@@ -108,44 +110,49 @@ impl Tally {
                 }
             }
         }
-        missing.extend(self.marks.missing());
-        missing.extend(self.parted.missing());
+        for (times, fell) in self.marks.into_iter().zip(Fell::ALL) {
+            for (times, entry) in times.into_iter().zip(Entry::ALL) {
+                if times == 0 && fell.is_for(entry) {
+                    missing.push(format!("mark {}, {}", fell.name(), entry.name()));
+                }
+            }
+        }
         missing
     }
 
     /// Prints all of it; true if the run is a success.
     pub fn conclude(&self) -> bool {
         self.print_counts();
-        for one in self.missing() {
-            println!("{one}: did not occur");
+        for number in self.missing() {
+            println!("{number}: did not occur");
         }
         let cases: u64 = self.classes.iter().sum();
         let too_few = cases >= ENOUGH && !self.missing().is_empty();
         let note = if too_few {
-            "; NOT EVERYTHING OCCURRED"
+            "; NOT EVERY NUMBER OR MARK OCCURRED"
         } else {
             ""
         };
-        let [judged @ .., written] = self.totals();
+        let [data, commands, written] = self.totals();
         let differences = self.differences + self.classes_differ;
         println!(
             "{cases} cases compared: {} recordings judged, {written} strings written; {differences} differences{note}",
-            judged.iter().sum::<u64>()
+            data + commands
         );
         differences == 0 && !too_few
     }
 
     fn print_counts(&self) {
-        let names = ALL.map(|by| format!("{:>11}", by.name())).concat();
+        let names = ALL.map(|by| format!("{:>9}", by.name())).concat();
         println!("number  name                     {names}");
         for (number, name) in numbers() {
-            let times = self.times(number).map(|times| format!("{times:>11}"));
+            let times = self.times(number).map(|times| format!("{times:>9}"));
             println!("{number:>6}  {name:<25}{}", times.concat());
         }
-        let entries = Entry::ALL.map(|entry| format!("{:>11}", entry.name()));
-        println!("        where                    {}", entries.concat());
-        self.marks.print();
-        self.parted.print();
+        for (times, fell) in self.marks.into_iter().zip(Fell::ALL) {
+            let times = times.map(|times| format!("{times:>9}"));
+            println!("  mark  {:<25}{}", fell.name(), times.concat());
+        }
         for (class, times) in CLASSES.iter().zip(self.classes) {
             println!("class {:<12} {times:>8} cases", class.name);
         }

@@ -6,7 +6,7 @@ use station::WRITTEN;
 use std::path::Path;
 use trials::name_of;
 
-type Judge = fn(&[u8], u32, &mut [u8], &mut [u32]) -> Answer;
+type Judge = fn(&[u8], &mut [u8], &mut [u32]) -> Answer;
 
 const JUDGES: [Judge; 2] = [trials::judge, by_steps::judge];
 const COMMAND_JUDGES: [Judge; 2] = [trials::judge_command, by_steps::judge_command];
@@ -29,14 +29,14 @@ fn samples(folder: &str) -> Vec<(String, Vec<u8>)> {
 }
 
 /// A judgement as bin/judge prints it, but for the classes. No place beyond the count may have changed.
-fn judged(judge: Judge, profile: u32, name: &str, file: &[u8]) -> String {
+fn judged(judge: Judge, name: &str, file: &[u8]) -> String {
     let (mut bytes, mut ledger) = ([0xA5; 1000], [7; 2000]);
     let Answer {
         number,
         tick,
         step,
         count,
-    } = judge(file, profile, &mut bytes, &mut ledger);
+    } = judge(file, &mut bytes, &mut ledger);
     let (handed, kept) = bytes.split_at(count as usize);
     let (ticks, kept_ticks) = ledger.split_at(2 * handed.len());
     assert!(kept.iter().all(|place| *place == 0xA5), "{name}");
@@ -53,36 +53,28 @@ fn judged(judge: Judge, profile: u32, name: &str, file: &[u8]) -> String {
     text
 }
 
-/// Each of the folder's samples has its stored answer, by each judge and each profile. What is stored is by the profiles' order.
-fn have_their_stored_answers(folder: &str, judges: [Judge; 2], stored: [&str; 2]) {
-    for (profile, stored) in (0..).zip(stored) {
-        let lines = stored.split_inclusive('\n');
-        let stored: String = lines.filter(|line| !line.starts_with("classes ")).collect();
-        for judge in judges {
-            let each = samples(folder)
-                .into_iter()
-                .map(|(name, file)| judged(judge, profile, &format!("{folder}/{name}"), &file));
-            assert_eq!(each.collect::<String>(), stored);
-        }
+/// Each of the folder's samples has its stored answer, by each judge.
+fn have_their_stored_answers(folder: &str, judges: [Judge; 2], stored: &str) {
+    for judge in judges {
+        let each = samples(folder)
+            .into_iter()
+            .map(|(name, file)| judged(judge, &format!("{folder}/{name}"), &file));
+        assert_eq!(each.collect::<String>(), stored);
     }
 }
 
 #[test]
-fn every_sample_has_its_stored_answers() {
-    let stored = [
-        include_str!("../../../samples/answers.txt"),
-        include_str!("../../../samples/answers-profile-1.txt"),
-    ];
+fn every_sample_has_its_stored_answer() {
+    let stored = include_str!("../../../samples/answers.txt");
     have_their_stored_answers("samples", JUDGES, stored);
 }
 
 #[test]
-fn every_sample_of_commands_has_its_stored_answers() {
-    let stored = [
-        include_str!("../../../samples/commands/answers.txt"),
-        include_str!("../../../samples/commands/answers-profile-1.txt"),
-    ];
-    have_their_stored_answers("samples/commands", COMMAND_JUDGES, stored);
+fn every_sample_of_commands_has_its_stored_answer() {
+    let stored = include_str!("../../../samples/commands/answers.txt");
+    let lines = stored.split_inclusive('\n');
+    let without_classes: String = lines.filter(|line| !line.starts_with("classes ")).collect();
+    have_their_stored_answers("samples/commands", COMMAND_JUDGES, &without_classes);
 }
 
 #[test]
@@ -91,7 +83,7 @@ fn the_longest_recording_is_judged_to_its_end() {
     let hold = Step::new(LONGEST, 6);
     let file = file_of(&[hold; MOST_STEPS]);
     for judge in JUDGES {
-        let answer = judge(&file, 0, &mut [0; 1000], &mut [0; 2000]);
+        let answer = judge(&file, &mut [0; 1000], &mut [0; 2000]);
         let end = Answer {
             number: 22,
             tick: 1_048_560_000,

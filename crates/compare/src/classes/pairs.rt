@@ -1,24 +1,15 @@
-// Pairs with all times drawn, from "The two parties' own rules" alone, of commands with those of #101, and of every other one
-// with the valid times of #104's profile 1. Each must be complete with its string at its finish tick, and no ledger tick may be
-// later than the pair's own.
+// Pairs with all times drawn, from "The two parties' own rules" alone, of commands with those of #101. Each must be complete
+// with its string at its finish tick, and no ledger tick may be later than the pair's own.
 use crate::case::Case;
 use crate::entry::Entry;
 use crate::made::manner::Manner;
 use crate::made::transfer::Transfer;
 
 pub(crate) fn put(entry: Entry, number: u32, file: &mut [u8]) -> Case {
-    let profile = number % 2;
-    let transfer = drawn(entry, Manner::NEVER, number / 2);
-    let plain = transfer.manner;
-    let manner = Manner {
-        valid_least: 20 + 40 * profile,
-        ..plain
-    };
-    let required = Transfer { manner, ..transfer }.put(file);
+    let required = drawn(entry, Manner::NEVER, number).put(file);
     Case {
-        profile,
         required,
-        ..Case::of_file(*b"pairs     ", 16_000, entry, file)
+        ..Case::of_file(*b"pairs     ", 8000, entry, file)
     }
 }
 

@@ -1,5 +1,5 @@
-// Each refusal at its edge and beside the ones before and after it, with buffers shorter and longer than asked, by each profile
-// and by numbers that are none: S1 with four of its bytes changed.
+// Each refusal at its edge and beside the ones before and after it, with buffers shorter and longer than asked: S1 with
+// four of its bytes changed.
 use crate::case::Case;
 use crate::entry::Entry;
 use crate::made::draft;
@@ -61,23 +61,16 @@ const BYTES: [usize; 5] = [1200, 1000, 999, 1200, 0];
 
 const LEDGER: [usize; 5] = [2400, 2000, 2400, 1999, 0];
 
-// 12: both profiles, and numbers of which some have a profile in their low bits.
-const PROFILES: [u32; 6] = [0, 1, 2, 256, 65_537, 0xFFFF_FFFF];
-
-const CASES: u32 = CHANGES * ROOMS * 6;
-
 pub(crate) fn put(entry: Entry, number: u32, file: &mut [u8]) -> Case {
     let change = change_at(number / ROOMS);
-    let profile = (number / (CHANGES * ROOMS) % 6) as usize;
     let room = (number % ROOMS) as usize;
     writer::write(&[0x41], file);
     draft::put_word(file, change.0, change.1);
     Case {
-        profile: PROFILES[profile],
         length: change.2,
         bytes: BYTES[room],
         ledger: LEDGER[room],
-        ..Case::of_file(*b"refusals  ", CASES, entry, file)
+        ..Case::of_file(*b"refusals  ", CHANGES * ROOMS, entry, file)
     }
 }
 

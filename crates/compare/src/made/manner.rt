@@ -12,8 +12,6 @@ pub(crate) struct Manner {
     pub free: u8,
     // From this tick on ATN is turned round.
     pub turn: u32,
-    // The fewest valid ticks that are drawn for a bit, by the profile that the sender keeps.
-    pub valid_least: u32,
 }
 
 impl Manner {
@@ -28,7 +26,6 @@ impl Manner {
         more: 0,
         free: draft::SRQ,
         turn: Manner::NEVER,
-        valid_least: 20,
     };
 
     // Each case has a start of its own, so that it can be made again by itself.

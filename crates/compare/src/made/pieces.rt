@@ -122,7 +122,7 @@ fn put_bit(file: &mut [u8], manner: Manner, data: u8) -> Manner {
     let shown = (next.state % 2) as u8 * draft::DATA;
     let begun = put_ticks(file, next, free, draft::CLK | shown);
     let ready = put_ticks(file, begun, rest, draft::CLK | data);
-    put_stretch(file, ready, Stretch(60, ready.valid_least, 200, data))
+    put_stretch(file, ready, Stretch(60, 20, 200, data))
 }
 
 // What follows the last byte's hold. Gives the finish tick.

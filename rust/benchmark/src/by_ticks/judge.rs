@@ -5,14 +5,11 @@ use super::verdict::Verdict;
 use by_steps::recording::{check, Recording, Step};
 use by_steps::Answer;
 
-/// The profile with document 01's rules, as the layout's check asks for one.
-const STANDARD: u32 = 0;
-
 /// Judges a recording. The bytes handed over and their ticks are written to
 /// `bytes` and `ledger`; nothing else there changes.
 pub fn judge(file: &[u8], bytes: &mut [u8], ledger: &mut [u32]) -> Answer {
-    match check(file, STANDARD, bytes.len(), ledger.len()) {
-        Ok((recording, _)) => read(&recording, bytes, ledger),
+    match check(file, bytes.len(), ledger.len()) {
+        Ok(recording) => read(&recording, bytes, ledger),
         Err(refusal) => refusal,
     }
 }

@@ -2,7 +2,7 @@
 //! what matters after it.
 
 use super::command::{command, plain_command};
-use super::recordings::{answer, first_ticks, judged, judged_file, steps, verdict, Judged};
+use super::recordings::{answer, first_ticks, judged, steps, verdict, Judged};
 use crate::{judge, judge_command, write, Answer};
 
 /// The verdict on 0x41, or on the carried 0x80, with `after` from the CLK pull
@@ -137,10 +137,11 @@ fn clk_and_data_move_after_the_finish() {
 /// No recording is complete in both entries: tick 0 decides.
 #[test]
 fn handed_to_the_other_entry() {
+    let (mut bytes, mut ledger) = ([0; 1000], [0; 2000]);
     let mut written = [0; 80 * 3 + 36];
     write(b"ABC", &mut written);
-    let data = judged_file(judge_command, &written);
-    assert_eq!(data.answer, answer(39, 0, 0, 0));
+    let data = judge_command(&written, &mut bytes, &mut ledger);
+    assert_eq!(data, answer(39, 0, 0, 0));
     assert_eq!(verdict(judge, &plain_command()), answer(23, 0, 0, 0));
     assert_eq!(verdict(judge, ""), answer(22, 0, 0, 0));
     assert_eq!(verdict(judge_command, ""), answer(22, 0, 0, 0));

@@ -7,6 +7,5 @@ mod finish;
 mod overruns;
 mod overruns_beside_others;
 mod plain;
-mod profiles;
 mod recordings;
 mod refusals;

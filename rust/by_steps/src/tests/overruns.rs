@@ -2,7 +2,7 @@
 //! star stands before a marked step.
 
 use super::command::command;
-use super::recordings::{answer, bits, file_with_marks, judged_file, Judge, Judged, TODAYS_RULES};
+use super::recordings::{answer, bits, file_with_marks, judged_file, Judge, Judged};
 use crate::recording::{check, Step};
 use crate::{judge, judge_command, write, Answer};
 
@@ -188,7 +188,7 @@ fn more_than_one_mark() {
 #[test]
 fn reading_a_step_reports_the_mark() {
     let file = file_with_marks("9:6 *9:6 *1:15 65535:15 *65535:0");
-    let (recording, _) = check(&file, TODAYS_RULES, 1000, 2000).unwrap();
+    let recording = check(&file, 1000, 2000).unwrap();
     let marks: Vec<bool> = recording.steps().map(Step::marked).collect();
     assert_eq!(marks, [false, true, true, false, true]);
     let durations: Vec<u32> = recording.steps().map(Step::duration).collect();
@@ -201,7 +201,7 @@ fn the_writer_never_marks() {
     for bytes in [&[][..], &[0x41], &[0x00, 0xFF, 0x80], &[0xFF; 799]] {
         let mut written = vec![1; 80 * bytes.len() + 36];
         write(bytes, &mut written);
-        let (recording, _) = check(&written, TODAYS_RULES, 1000, 2000).unwrap();
+        let recording = check(&written, 1000, 2000).unwrap();
         assert!(!recording.steps().any(Step::marked));
     }
 }

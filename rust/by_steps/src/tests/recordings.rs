@@ -7,11 +7,8 @@ use crate::Answer;
 const KEPT_BYTE: u8 = 0xEE;
 const KEPT_TICK: u32 = 0xEEEE_EEEE;
 
-/// #104: "0 for today's rules". All tests but the request's own judge by it.
-pub const TODAYS_RULES: u32 = 0;
-
 /// One of the two entries.
-pub type Judge = fn(&[u8], u32, &mut [u8], &mut [u32]) -> Answer;
+pub type Judge = fn(&[u8], &mut [u8], &mut [u32]) -> Answer;
 
 /// An answer with what lies at the beginning of the lent memory.
 #[derive(Debug, PartialEq)]
@@ -68,15 +65,11 @@ pub fn judged(judge: Judge, steps: &[(u16, u8)]) -> Judged {
     judged_file(judge, &file(steps))
 }
 
-pub fn judged_file(judge: Judge, file: &[u8]) -> Judged {
-    judged_under(TODAYS_RULES, judge, file)
-}
-
 /// Judges with just enough lent, and sees to it that all places after the bytes
 /// handed over "keep what they held".
-pub fn judged_under(profile: u32, judge: Judge, file: &[u8]) -> Judged {
+pub fn judged_file(judge: Judge, file: &[u8]) -> Judged {
     let (mut bytes, mut ledger) = (vec![KEPT_BYTE; 1000], vec![KEPT_TICK; 2000]);
-    let answer = judge(file, profile, &mut bytes, &mut ledger);
+    let answer = judge(file, &mut bytes, &mut ledger);
     let count = answer.count as usize;
     assert!(bytes.drain(count..).all(|byte| byte == KEPT_BYTE));
     assert!(ledger.drain(2 * count..).all(|tick| tick == KEPT_TICK));

@@ -1,25 +1,20 @@
-//! "Same refusals": 1 to 9, and #104's 12, are given by both entries alike.
+//! "Same refusals": 1 to 9 are given by both entries alike.
 
-use super::recordings::{answer, file, file_with_marks, judged_file, Judge, TODAYS_RULES};
+use super::recordings::{answer, file, file_with_marks, judged_file, Judge};
 use crate::{judge, judge_command, Answer};
 
 /// Judges with `places` for bytes and twice as many in the ledger; a refusal
 /// changes "no lent byte or number".
-fn refused(judge: Judge, file: &[u8], profile: u32, places: usize) -> Answer {
+fn refused(judge: Judge, file: &[u8], places: usize) -> Answer {
     let (mut bytes, mut ledger) = (vec![7; places], vec![7; 2 * places]);
-    let answer = judge(file, profile, &mut bytes, &mut ledger);
+    let answer = judge(file, &mut bytes, &mut ledger);
     assert!(bytes.iter().all(|byte| *byte == 7) && ledger.iter().all(|tick| *tick == 7));
     answer
 }
 
 fn assert_both(file: &[u8], places: usize, number: u32, step: u32) {
-    assert_both_under(TODAYS_RULES, file, places, number, step);
-}
-
-fn assert_both_under(profile: u32, file: &[u8], places: usize, number: u32, step: u32) {
     for judge in [judge, judge_command] {
-        let refusal = refused(judge, file, profile, places);
-        assert_eq!(refusal, answer(number, 0, step, 0), "profile {profile}");
+        assert_eq!(refused(judge, file, places), answer(number, 0, step, 0));
     }
 }
 
@@ -30,51 +25,18 @@ fn with_byte(place: usize, value: u8) -> Vec<u8> {
     file
 }
 
-/// A file that no test up to 8 refuses.
-fn good_form() -> Vec<u8> {
-    with_byte(0, 1)
-}
-
-/// Files that the tests 1 to 8 refuse, with number and step.
-fn bad_forms() -> [(Vec<u8>, u32, u32); 9] {
-    [
-        (vec![1; 15], 1, 0),
-        (with_byte(0, 2), 2, 0),
-        (with_byte(3, 0xFF), 3, 0),
-        (with_byte(4, 17), 4, 0),
-        (with_byte(12, 25), 5, 0),
-        (with_byte(20, 0), 6, 1),
-        (with_byte(22, 0x15), 7, 1),
-        (with_byte(23, 2), 7, 1),
-        (with_byte(8, 210), 8, 0),
-    ]
-}
-
-/// Under #104's profiles alike, and 1 to 8 under any other number too: 12 comes
-/// "after 8". So they come before 9 as well.
 #[test]
 fn both_entries_refuse_alike() {
-    for (file, number, step) in bad_forms() {
-        for profile in [0, 1, 2, u32::MAX] {
-            assert_both_under(profile, &file, 1000, number, step);
-            assert_both_under(profile, &file, 999, number, step);
-        }
-    }
-    for profile in [0, 1] {
-        assert_both_under(profile, &good_form(), 999, 9, 0);
-    }
-}
-
-/// #104: "another number is refused as 12, ... before 9", so whatever is lent.
-/// Some of these numbers are 0 or 1 in their lowest byte or two.
-#[test]
-fn other_profiles() {
-    for profile in [2, 3, 255, 256, 257, 65_536, 65_537, u32::MAX] {
-        for places in [0, 999, 1000] {
-            assert_both_under(profile, &good_form(), places, 12, 0);
-            assert_both_under(profile, &file(&[]), places, 12, 0);
-        }
-    }
+    assert_both(&[1; 15], 1000, 1, 0);
+    assert_both(&with_byte(0, 2), 1000, 2, 0);
+    assert_both(&with_byte(3, 0xFF), 1000, 3, 0);
+    assert_both(&with_byte(4, 17), 1000, 4, 0);
+    assert_both(&with_byte(12, 25), 1000, 5, 0);
+    assert_both(&with_byte(20, 0), 1000, 6, 1);
+    assert_both(&with_byte(22, 0x15), 1000, 7, 1);
+    assert_both(&with_byte(23, 2), 1000, 7, 1);
+    assert_both(&with_byte(8, 210), 1000, 8, 0);
+    assert_both(&with_byte(0, 1), 999, 9, 0);
 }
 
 /// #103: "Refusal 7 now means other line bits or a last byte above 1." The file

@@ -3,23 +3,21 @@
 //! The rules above are those of "Bits": "eight, least significant first, pulled is one. *Set-up*: CLK pulled for 1 to 200
 //! ticks (H), DATA free; a 201st is 34. *Valid*: CLK released. Its first tick must show the DATA of the last set-up tick,
 //! otherwise 33. DATA changing while valid: 33. A 201st valid tick (H): 34. CLK pulled after fewer than 20 valid ticks
-//! (003): 32." Request #104 has profile 1 "with 60 in place of 20".
+//! (003): 32."
 
 use super::{after, holds};
-use crate::limits::SET_UP;
+use crate::limits::{SET_UP, VALID};
 use crate::timetable::Timetable;
-use crate::Profile;
 
 /// For a byte.
-pub(super) fn check(table: &Timetable, byte: usize, profile: Profile) -> Result<(), String> {
-    let window = profile.valid();
+pub(super) fn check(table: &Timetable, byte: usize) -> Result<(), String> {
     for bit in 0..8 {
         let set_up = table.set_up(byte, bit);
         let rule = "set-up: CLK pulled for 1 to 200 ticks";
         after(byte, rule, set_up.from, set_up.until, SET_UP)?;
         let valid = table.valid(byte, bit);
-        let rule = format_args!("valid: CLK released for {window} ticks");
-        after(byte, rule, valid.from, valid.until, window)?;
+        let rule = "valid: CLK released for 20 to 200 ticks";
+        after(byte, rule, valid.from, valid.until, VALID)?;
         steady(table, byte, bit)?;
     }
     let (from, until) = (table.bits_begin(byte), table.handover(byte));

@@ -1,16 +1,14 @@
 //! Strings that a pair does not send.
 
-use parties::{check_pair, Pair, Profile, Random};
+use parties::{check_pair, Pair, Random};
 
-/// Of the string that the pair sends: one with a bit changed, a longer one, a shorter one and none. Profile 0 asks the
-/// least, so it is the string that is found.
+/// Of the string that the pair sends: one with a bit changed, a longer one, a shorter one and none.
 pub fn are_found(pair: &Pair, string: &[u8], random: &mut Random) {
     let mut other = string.to_vec();
     let (place, bit) = (random.place(string.len()), random.below(8));
     other[place] ^= 1 << bit;
     let longer = [string, &[0]].concat();
     for wrong in [&other, &longer, &string[..string.len() - 1], &[]] {
-        let said = check_pair(pair, wrong, Profile::Standard);
-        assert!(said.is_err(), "{wrong:?}");
+        assert!(check_pair(pair, wrong).is_err(), "{wrong:?}");
     }
 }

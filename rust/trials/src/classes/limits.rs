@@ -104,13 +104,9 @@ fn in_a_bit(random: &mut Random, transfer: &mut Transfer, place: usize) {
     let bit = &mut transfer.bytes[place].bits[which];
     match random.below(5) {
         0 => bit.set_up = random.pick(&[0, 1, 2, 199, 200, 201, 202]),
-        1 | 2 => {
-            bit.valid = random.pick(&[
-                0, 1, 18, 19, 20, 21, 22, 58, 59, 60, 61, 62, 199, 200, 201, 202,
-            ])
-        }
+        1 | 2 => bit.valid = random.pick(&[0, 1, 18, 19, 20, 21, 22, 199, 200, 201, 202]),
         _ => {
-            bit.valid = random.pick(&[19, 20, 21, 59, 60, 61, 200, 201]);
+            bit.valid = random.pick(&[19, 20, 21, 60, 200, 201]);
             let (begin, end) = (bit.set_up, bit.set_up + bit.valid);
             let inside = random.between(begin, end);
             bit.moves = [0; 3];
@@ -119,7 +115,7 @@ fn in_a_bit(random: &mut Random, transfer: &mut Transfer, place: usize) {
     }
 }
 
-/// The sender's keeping, the receiver's take, also with the valid time before it, and both together with the hold that follows.
+/// The sender's keeping, the receiver's take, and both together with the hold that follows.
 fn at_the_handover(random: &mut Random, transfer: &mut Transfer, place: usize) {
     let byte = &mut transfer.bytes[place];
     let kind = random.below(4);
@@ -127,14 +123,7 @@ fn at_the_handover(random: &mut Random, transfer: &mut Transfer, place: usize) {
         byte.value |= 0x80;
     }
     match kind {
-        0 => {
-            byte.take = random.pick(&[0, 0, 1, 2, 998, 999, 1000, 1001, 1002]);
-            if random.one_in(2) {
-                // A take at offset 0 is wrong after a zero, but the valid time before it comes first.
-                byte.value &= 0x7F;
-                byte.bits[7].valid = random.pick(&[19, 20, 59, 60]);
-            }
-        }
+        0 => byte.take = random.pick(&[0, 1, 2, 998, 999, 1000, 1001, 1002]),
         1 => {
             byte.keep = random.pick(&[0, 1, 2, 98, 99, 100, 101, 102]);
             byte.take = byte.keep + random.pick(&[0, 1, 2, 20]);

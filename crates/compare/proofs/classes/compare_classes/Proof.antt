@@ -8,7 +8,7 @@ abbrev invariant-loop : tie.invariant-loop
 invariant-loop file₀ tally₀ class₀ file tally class = length file ≡ length file₀
 
 abbrev decreases-loop : tie.decreases-loop
-decreases-loop file₀ tally₀ class₀ file tally class = 21 - class
+decreases-loop file₀ tally₀ class₀ file tally class = 19 - class
 
 pub compare-classes-spec : {M : Type 1} → statement M
 compare-classes-spec =

@@ -1,12 +1,12 @@
 -- `judge` meets its contract: the first clause is that of `judge_by`, the second follows from it. Assumes nothing.
 use borrow.Author.Rules.{rules}
-use Rattle.judge.proofs.{Demand3.promised, entry.judge.Statement.statement}
+use Rattle.judge.proofs.{Demand3.standard_promised, entry.judge.Statement.statement}
 use Rattle.judge.proofs.entry.judge.Tie as tie
 
 returns : tie.Need-returns
 returns c =
     let judged = c.before.before.before.before in
-    promised _ _ _ _ _ _ _ judged.before.before.before.of-profile.ensures judged.judge-by.ensures
+    standard_promised _ _ _ _ _ judged.before.before.before.standard.ensures judged.judge-by.ensures
 
 pub judge-spec : {M : Type 1} → statement M
 judge-spec =

@@ -1,12 +1,12 @@
 -- `judge_command` meets its contract: the first clause is that of `judge_by`, the second follows from it. Assumes nothing.
 use borrow.Author.Rules.{rules}
-use Rattle.judge.proofs.{Demand3.promised, entry.judge_command.Statement.statement}
+use Rattle.judge.proofs.{Demand3.command_promised, entry.judge_command.Statement.statement}
 use Rattle.judge.proofs.entry.judge_command.Tie as tie
 
 returns : tie.Need-returns
 returns c =
     let judged = c.before.before.before.before in
-    promised _ _ _ _ _ _ _ judged.before.before.before.of-profile.ensures judged.judge-by.ensures
+    command_promised _ _ _ _ _ judged.before.before.before.command.ensures judged.judge-by.ensures
 
 pub judge-command-spec : {M : Type 1} → statement M
 judge-command-spec =

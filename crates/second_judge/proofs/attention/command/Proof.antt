@@ -16,16 +16,14 @@ after-the-finish c =
     let next = c.after-the-finish.result in
     let among = c.after-the-finish.ensures.0 in (
       of_each (λ (n : ℕ). Among (ending ++ leading Command) n) (stay ∷ 37 ∷ []) next among (tt, (tt, tt)),
-      λ ends.
-          absurd
-          (of_each (λ (n : ℕ). Among ending n → ⊥) (stay ∷ 37 ∷ []) next among ((λ h. h), ((λ h. h), tt)) ends),
+      λ ends. absurd (of_each (λ (n : ℕ). Among ending n → ⊥) (stay ∷ 37 ∷ []) next among ((λ h. h), ((λ h. h), tt)) ends),
       λ at-end stays. c.after-the-finish.ensures.1 stays,
     )
 
 released : tie.Need-returns-2
 released c = (
-  of_each (λ (n : ℕ). Among (ending ++ leading Command) n) (finish ∷ 39 ∷ []) c.released.result
-      c.released.ensures (tt, (tt, tt)),
+  of_each (λ (n : ℕ). Among (ending ++ leading Command) n) (finish ∷ 39 ∷ []) c.released.result c.released.ensures
+      (tt, (tt, tt)),
   λ ends. c.before.if2.true,
   λ at-end. absurd (c.before.before.if1.false at-end),
 )

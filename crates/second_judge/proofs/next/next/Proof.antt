@@ -1,5 +1,5 @@
--- `second_judge::next::next` meets its contract: where ATN decides nothing, the rows lead to E, and stay in it, with
--- the lines at rest alone; of a command recording `command` ensures the like. Assumes nothing.
+-- `second_judge::next::next` meets its contract: where ATN decides nothing, the rows lead to E, and stay in it, with the
+-- lines at rest alone; of a command recording `command` ensures the like. Assumes nothing.
 use native.Mathlib.Omega.{arith}
 use borrow.Author.Rules.{rules}
 use Rattle.second_judge.proofs.Lists.{by_rows_alone}
@@ -18,8 +18,7 @@ by_rows c =
     let released = c.before.if1.false in
     let told = c.before.before.enum_told.given.1 in
     let rows = c.by_rows.ensures in
-    let entry = c.before.before.before.before.before.args.entry in
-    let alone = by_rows_alone entry c.by_rows.result rows.0 in (
+    let alone = by_rows_alone c.before.before.before.before.args.entry c.by_rows.result rows.0 in (
       alone.0,
       λ ends. rw told (omega (arith, (rows.1 (alone.1 ends)).0, released)),
       λ at-end stays. rw told (omega (arith, rows.2 at-end stays, released)),
@@ -28,6 +27,6 @@ by_rows c =
 pub next-spec : {M : Type 1} → statement M
 next-spec =
     tie.close
-    (tie.spec (λ c. search rules) (λ c. search rules) (λ c κs. search rules) (λ c. search rules)
-    (λ c κs. rw c.enum-told2.given.1 at c.before.before.before.requires.0) attention by_rows
+    (tie.spec (λ c. search rules) (λ c κs. search rules) (λ c. search rules)
+    (λ c κs. rw c.enum-told2.given.1 at c.before.before.requires) attention by_rows
     (λ c. rw c.before.enum-told2.given.1 c.command.ensures))

@@ -6,5 +6,4 @@ use Rattle.second_judge.proofs.patience.silence_verdict.Tie as tie
 pub silence-verdict-spec : {M : Type 1} → statement M
 silence-verdict-spec =
     tie.close
-    (tie.spec (λ c. search rules) (λ c. search rules) (λ c. rw c.enum_told.given.1 tt)
-    (λ c. rw c.enum-told2.given.1 tt))
+    (tie.spec (λ c. search rules) (λ c. search rules) (λ c. rw c.enum_told.given.1 tt) (λ c. rw c.enum-told2.given.1 tt))

@@ -1,5 +1,5 @@
--- `second_judge::patience::verdict_of` meets its contract: what the reading stands at is a verdict if it is no phase,
--- and the phases are the match's arms; F and G are phases of the plain entry alone. Assumes nothing.
+-- `second_judge::patience::verdict_of` meets its contract: what the reading stands at is a verdict if it is no phase, and
+-- the phases are the match's arms; F and G are phases of the plain entry alone. Assumes nothing.
 use mathlib.Core.List.{◌∷◌}
 use borrow.Author.Rules.{rules}
 use borrow.Author.Tests.{ne_eqb}

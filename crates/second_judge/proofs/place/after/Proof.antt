@@ -1,6 +1,6 @@
--- `second_judge::place::after` meets its contract: what a tick leads to is where the reading stands, unless it is to
--- stay, to C with a byte handed over, to E by the finish, or open from here, each of which is an arm of the match.
--- Assumes nothing.
+-- `second_judge::place::after` meets its contract: what a tick leads to is where the reading stands, unless it is to stay,
+-- to C with a byte handed over, to E by the finish, or open from here, each of which is an arm of the match. Assumes
+-- nothing.
 use Prim.Native.Nat.{ℕ}
 use mathlib.Core.List.{◌∷◌}
 use mathlib.Core.Path.{◌≡◌}
@@ -49,8 +49,7 @@ goes_on c =
       search rules,
       record {
         stands = λ entry stood leads.
-            rw there
-            (simp (ne_eqb _ 11 stay, ne_eqb _ 12 hand-over, ne_eqb _ 13 open-from-here, ne_eqb _ 14 finish) at leads);
+            rw there (simp (ne_eqb _ 11 stay, ne_eqb _ 12 hand-over, ne_eqb _ 13 open-from-here, ne_eqb _ 14 finish) at leads);
         stayed = λ in-the-end stays. absurd (stay stays);
         came = λ in-the-end goes.
             let to_end : c.before.before.args.next ≡ the_end = omega (arith, in-the-end, there) in
@@ -61,9 +60,8 @@ goes_on c =
 pub after-spec : {M : Type 1} → statement M
 after-spec =
     tie.close
-    (tie.spec (λ c κs. search rules) (λ c κs. search rules) (λ c κs. search rules) (λ c κs. search rules)
-    (λ c. search rules) (λ c κs. search rules) (λ c κs. search rules) (λ c κs. search rules) (λ c κs. search rules)
-    stays
+    (tie.spec (λ c κs. search rules) (λ c κs. search rules) (λ c κs. search rules) (λ c κs. search rules) (λ c. search rules)
+    (λ c κs. search rules) (λ c κs. search rules) (λ c κs. search rules) (λ c κs. search rules) stays
     (λ c. (search rules, elsewhere _ _ _ _ c.place_of.ensures.0 (λ entry. tt) (omega arith)))
     (λ c. (search rules, elsewhere _ _ _ _ c.place-of2.ensures.0 (λ entry. tt) (omega arith)))
     finishes

@@ -1,10 +1,10 @@
--- `second_judge::reading::read_steps` meets its contract. The loop's invariant: the lent memory is kept from the count
--- on; the step is at most the number of steps; the tick is the sum of the durations passed, at most 65,535 for each, so
--- that no sum wraps; a phase begins no later than the tick and the step, and E sooner and with the lines at rest since;
--- the reading stands in a phase or at a verdict; there are at most a bit and at most a byte handed over for each step
--- passed, and none of these is marked. The measure is the number of steps left. In the proofs `begun` is where the
--- loop's turn begins, `tested` where its test has held, `read` where the step is read, `called` where `hand_over` has
--- returned. Assumes nothing.
+-- `second_judge::reading::read_steps` meets its contract. The loop's invariant: the lent memory is kept from the count on;
+-- the step is at most the number of steps; the tick is the sum of the durations passed, at most 65,535 for each, so that
+-- no sum wraps; a phase begins no later than the tick and the step, and E sooner and with the lines at rest since; the
+-- reading stands in a phase or at a verdict; there are at most a bit and at most a byte handed over for each step passed,
+-- and none of these is marked. The measure is the number of steps left. In the proofs `begun` is where the loop's turn
+-- begins, `tested` where its test has held, `read` where the step is read, `called` where `hand_over` has returned.
+-- Assumes nothing.
 use mathlib.Core.List.{[], ◌∷◌}
 use Prim.Native.Nat.{ℕ, ◌+◌, ◌*◌, ◌-◌, ◌≤◌, ◌<◌}
 use mathlib.Core.Path.{◌≡◌, ap, sym}
@@ -23,18 +23,17 @@ use Rattle.second_judge.proofs.reading.read_steps.Statement.{statement}
 use Rattle.second_judge.proofs.reading.read_steps.Tie as tie
 
 abbrev invariant-loop : tie.invariant-loop
-invariant-loop entry valid_least file steps bytes₀ ledger₀ place₀ byte₀ before₀ count₀ tick₀ step₀
+invariant-loop entry file steps bytes₀ ledger₀ place₀ byte₀ before₀ count₀ tick₀ step₀
     bytes ledger place byte before count tick step =
     Kept count bytes₀ bytes × Kept (2 * count) ledger₀ ledger × (step ≤ steps) × (tick ≤ 65535 * step)
     × (tick ≡ ticks file step) × (place.since ≤ tick) × (place.since_step ≤ step)
     × (place.phase ≡ the_end
-    → (place.since < tick) × (place.since_step < step)
-    × ((last : ℕ) → last + 1 ≡ step → AtRest entry (lines file last)))
+    → (place.since < tick) × (place.since_step < step) × ((last : ℕ) → last + 1 ≡ step → AtRest entry (lines file last)))
     × Among (the_end ∷ standing entry) place.phase × (byte.bits ≤ step) × (count ≤ step)
     × Unmarked file step
 
 abbrev decreases-loop : tie.decreases-loop
-decreases-loop entry valid_least file steps bytes₀ ledger₀ place₀ byte₀ before₀ count₀ tick₀ step₀
+decreases-loop entry file steps bytes₀ ledger₀ place₀ byte₀ before₀ count₀ tick₀ step₀
     bytes ledger place byte before count tick step =
     steps - step
 
@@ -42,7 +41,7 @@ abbrev start_of : tie.At-loop invariant-loop decreases-loop → tie.Start invari
 start_of begun = begun.before.before.before.before.before.before
 
 abbrev unmarked-of : tie.After-hand-over invariant-loop decreases-loop → tie.Else1 invariant-loop decreases-loop
-unmarked-of called = called.before.before.before.before.before
+unmarked-of called = called.before.before.before.before.before.before
 
 abbrev read_of : tie.After-hand-over invariant-loop decreases-loop → tie.After-step-at invariant-loop decreases-loop
 read_of called = (unmarked-of called).before.before
@@ -76,9 +75,8 @@ ended c =
     let read = read_of c in
     let begun = read.before.before in
     let start = start_of begun in
-    let more = ticks_more start.args.file.now begun.loop.step in
     let lasts = start.pre.lasting begun.loop.step read.before.loop-test.taken in (
-      omega (arith, begun.loop.inv.4, read.step-at.ensures.0, more),
+      omega (arith, begun.loop.inv.4, read.step-at.ensures.0, ticks_more start.args.file.now begun.loop.step),
       omega (arith, read.step-at.ensures.0, lasts),
     )
 
@@ -113,8 +111,7 @@ stood c =
     let called = c.before.before.before.before.before.before in
     let tested = tested-of called in
     let next = called.before.before.before.next in
-    c.after2.ensures.1.stands (start_of tested.before).args.entry tested.before.loop.inv.8
-    next.ensures.0
+    c.after2.ensures.1.stands (start_of tested.before).args.entry tested.before.loop.inv.8 next.ensures.0
 
 loop-holds : tie.Need-loop-init invariant-loop decreases-loop
 loop-holds c =
@@ -176,8 +173,7 @@ returns c =
           };
       heeded =
           record {
-            at_the_first = λ at_mark.
-                rw over.2 (marked, omega (arith, over.1, begun.loop.invariant.4), begun.loop.invariant.11);
+            at_the_first = λ at_mark. rw over.2 (marked, omega (arith, over.1, begun.loop.invariant.4), begun.loop.invariant.11);
             before_any = λ reads. absurd (none_while_reading start.args.entry number reads (rw over.0 tt));
             without_any = λ runs_out. absurd (rw over.0 at runs_out);
           };
@@ -200,8 +196,7 @@ returns-2 c =
     let step = tested.before.loop.step in
     let number = c.before.before.found_in.result.number in
     let found = c.before.before.found_in.ensures in
-    let verdict : Among (while_reading start.args.entry) number =
-    simp (ne_eqb number 0 c.if2.true) at found.0 in
+    let verdict : Among (while_reading start.args.entry) number = simp (ne_eqb number 0 c.if2.true) at found.0 in
     let never = none_while_reading start.args.entry number verdict in
     let no-complete : number ≡ 20 → ⊥ = λ same. never (rw same tt) in
     let no_cut : number ≡ 22 → ⊥ = λ same. never (rw same tt) in
@@ -293,8 +288,7 @@ returns-3 c =
                 absurd (none_while_reading start.args.entry number reads other);
             without_any = λ runs_out step below. loop.invariant.11 step (omega (arith, below, start.pre.counted, all));
           };
-      at_rest = λ at-end last this.
-          (loop.invariant.7 (ran_out.3 at-end)).2 last (omega (arith, this, start.pre.counted, all));
+      at_rest = λ at-end last this. (loop.invariant.7 (ran_out.3 at-end)).2 last (omega (arith, this, start.pre.counted, all));
       bytes_kept = kept_from (omega (arith, ran_out.1)) loop.invariant.0;
       ledger_kept = kept_from (omega (arith, ran_out.1)) loop.invariant.1;
     }
@@ -303,7 +297,7 @@ pub read-steps-spec : {M : Type 1} → statement M
 read-steps-spec =
     tie.close
     (tie.spec invariant-loop decreases-loop (λ c κs. search rules) (λ c κs. search rules) loop-holds (λ c κs. search rules)
-    (λ c κs. search rules) same_length same-length-2 returns (λ c. search rules) (λ c κs. search rules)
-    (λ c κs. search rules) after-requires after-requires-2 (λ c κs. stood c)
+    (λ c κs. search rules) same_length same-length-2 returns (λ c. search rules) (λ c. search rules)
+    (λ c κs. search rules) (λ c κs. search rules) after-requires after-requires-2 (λ c κs. stood c)
     same-length-3 same-length-4 returns-2 add_step loop-less loop-again ran-out-requires (λ c. search rules)
     (λ c. search rules) returns-3)

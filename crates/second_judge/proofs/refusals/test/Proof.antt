@@ -1,30 +1,20 @@
--- `second_judge::refusals::test` meets its contract: a refusal of the file is neither 12 nor 9, and where the file is
--- not refused `caller_refusal` ensures what these say of the profile. Assumes nothing.
-use mathlib.Core.List.{[], ◌∷◌}
+-- `second_judge::refusals::test` meets its contract: where the header is not refused, `header_refusal` ensures that
+-- there are at most 16,000 steps and that the file holds them, and `test_steps` the rest. Assumes nothing.
+use native.Mathlib.Omega.{arith}
 use borrow.Author.Rules.{rules}
-use Rattle.second_judge.specs.Numbers.{file_refusals}
-use Rattle.second_judge.proofs.Lists.{among_more}
 use Rattle.second_judge.proofs.refusals.test.Statement.{statement}
 use Rattle.second_judge.proofs.refusals.test.Tie as tie
 
-of-the-file : tie.Need-returns
-of-the-file c =
-    let number = c.before.before.test-file.result.number in
-    let among = c.before.before.test-file.ensures.0 in (
-      among_more (0 ∷ file_refusals) (12 ∷ 9 ∷ []) number among,
-      λ none. absurd (c.if1.true none),
-      λ at-12. absurd (rw at-12 at among),
-      λ at_9. absurd (rw at_9 at among),
-    )
-
-of-the-caller : tie.Need-returns-2
-of-the-caller c =
-    let caller = c.caller-refusal.ensures in (
-      caller.0,
-      λ none. (c.before.before.before.test-file.ensures.1 c.before.if1.false, caller.1 none),
-      caller.2,
-      caller.3,
-    )
+test-steps-requires : tie.Need-test-steps-requires
+test-steps-requires c κs =
+    let fits = c.before.before.header-refusal.ensures.1 c.before.if2.false in
+    (fits.0, fits.1, c.before.before.before.before.before.two-bytes2.ensures.0, c.room-refusal.ensures)
 
 pub test-spec : {M : Type 1} → statement M
-test-spec = tie.close (tie.spec (λ c κs. search rules) of-the-file (λ c κs. search rules) of-the-caller)
+test-spec =
+    tie.close
+    (tie.spec (λ c κs. search rules)
+    (λ c. (c.refused.ensures.1, λ e. absurd (omega (arith, e, c.refused.ensures.0)))) (λ c κs. search rules)
+    (λ c κs. search rules) (λ c κs. search rules) (λ c κs. search rules) (λ c κs. search rules) (λ c κs. search rules)
+    (λ c. (c.refused2.ensures.1, λ e. absurd (omega (arith, e, c.refused2.ensures.0)))) (λ c κs. search rules)
+    test-steps-requires (λ c. c.test-steps.ensures))

@@ -1,5 +1,5 @@
--- `second_judge::rows::ready_to_send` meets its contract: only its (0,0) leads to E, and only after an end mark.
--- Assumes nothing.
+-- `second_judge::rows::ready_to_send` meets its contract: only its (0,0) leads to E, and only after an end mark. Assumes
+-- nothing.
 use native.Mathlib.Omega.{arith}
 use borrow.Author.Rules.{rules}
 use Rattle.second_judge.proofs.rows.ready_to_send.Statement.{statement}

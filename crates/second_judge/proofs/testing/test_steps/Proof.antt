@@ -1,6 +1,6 @@
--- `second_judge::testing::test_steps` meets its contract. The loop's invariant: the step is at most the number of
--- steps, the sum of the durations is that of the steps passed, at most 65,535 for each, and each of these lasts a tick
--- or more. The measure is the number of steps left. Assumes nothing.
+-- `second_judge::testing::test_steps` meets its contract. The loop's invariant: the step is at most the number of steps,
+-- the sum of the durations is that of the steps passed, at most 65,535 for each, and each of these lasts a tick or more.
+-- The measure is the number of steps left. Assumes nothing.
 use Prim.Native.Nat.{ℕ, ◌≤◌, ◌<◌, ◌*◌, ◌-◌}
 use mathlib.Core.Path.{◌≡◌, ap, sym}
 use native.Mathlib.Omega.{arith}
@@ -12,11 +12,11 @@ use Rattle.second_judge.proofs.testing.test_steps.Statement.{statement}
 use Rattle.second_judge.proofs.testing.test_steps.Tie as tie
 
 abbrev invariant-loop : tie.invariant-loop
-invariant-loop file steps total₀ step₀ total step =
+invariant-loop file steps room-refusal total₀ step₀ total step =
     (step ≤ steps) × (total ≤ 65535 * step) × (total ≡ ticks file step) × ((k : ℕ) → k < step → 0 < duration file k)
 
 abbrev decreases-loop : tie.decreases-loop
-decreases-loop file steps total₀ step₀ total step =
+decreases-loop file steps room-refusal total₀ step₀ total step =
     steps - step
 
 loop-holds : tie.Need-loop-init invariant-loop decreases-loop
@@ -45,7 +45,7 @@ returns-3 c =
     let loop = c.before.before.before.loop in
     let start = c.before.before.before.before.before in
     let all : loop.step ≡ start.args.steps = omega arith in (
-      tt,
+      start.requires.3,
       λ none.
           record {
             few = start.requires.0;

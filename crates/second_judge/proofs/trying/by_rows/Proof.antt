@@ -51,4 +51,4 @@ by-rows-spec =
     (λ c. elsewhere_both c.before.before.args.entry c.valid.ensures (omega arith))
     (λ c. elsewhere_both c.before.before.args.entry c.carried.ensures (omega arith))
     (λ c. elsewhere_both c.before.before.args.entry c.«open».ensures (omega arith))
-    (λ c. elsewhere_both c.before.before.args.entry c.end.ensures.0 (λ at-end. c.end.ensures.1)))
+    (λ c. elsewhere_both c.before.before.args.entry c.end.ensures.0 (λ at-end stays. c.end.ensures.1 stays)))

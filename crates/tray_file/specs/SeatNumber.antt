@@ -1,6 +1,7 @@
--- A number as it stands in an argument.
+-- A seat's number as it stands in an argument.
 use Prim.Native.Char.{code}
 use Rattle.answer.specs.Basics.{ℕ, ◌+◌, ◌-◌, ◌*◌, Bool, true, false, List, [], ◌∷◌, ltb, if◌then◌else◌}
+use Rattle.tray.specs.Tray.{seats}
 
 abbrev pub is_digit : (byte : ℕ) → Bool
 is_digit byte = if ltb byte (code "0") then false else if ltb (code "9") byte then false else true
@@ -22,6 +23,6 @@ number_after number (digit ∷ digits) = number_after (number * 10 + (digit - co
 abbrev pub number_of : (digits : List ℕ) → ℕ
 number_of digits = number_after 0 digits
 
--- A number above the most that is asked for is taken for that.
-unfoldable pub or_most : (most number : ℕ) → ℕ
-or_most most number = if ltb number most then number else most
+-- Every number that no seat has is taken for the least of them, 40.
+unfoldable pub or_forty : ℕ → ℕ
+or_forty number = if ltb number seats then number else seats

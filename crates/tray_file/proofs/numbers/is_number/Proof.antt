@@ -2,9 +2,9 @@
 use borrow.Author.{Needs.needs, Tests.not-true, Tests.not-false}
 use mathlib.Core.Path.{sym, ◌∙◌}
 use Rattle.answer.specs.Basics.{◌-◌, length}
-use Rattle.files.proofs.NumberLaws.{DigitsTo, no_text, digits_none, digits_next, digits_other, digits_all}
-use Rattle.files.proofs.numbers.is_number.Statement.{statement}
-use Rattle.files.proofs.numbers.is_number.Tie as tie
+use Rattle.tray_file.proofs.NumberLaws.{DigitsTo, no_text, digits_none, digits_next, digits_other, digits_all}
+use Rattle.tray_file.proofs.numbers.is_number.Statement.{statement}
+use Rattle.tray_file.proofs.numbers.is_number.Tie as tie
 
 abbrev invariant-loop : tie.invariant-loop
 invariant-loop text place₀ place = DigitsTo text place
