@@ -45,7 +45,7 @@ def respelled(name):
     if name[0].isupper():
         return name
     head, dash, rest = name.partition("-")
-    if dash and (head in LIBRARY or snake(head) != head):
+    if dash and not rest.startswith(("up", "least", "most")) and (head in LIBRARY or snake(head) != head):
         return OLD_HEADS.get(head, snake(head)) + "-" + snake(rest).replace("-", "_")
     return snake(name).replace("-", "_")
 

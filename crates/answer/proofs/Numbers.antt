@@ -1,5 +1,5 @@
 -- What a number tells: complete, cut, another verdict or a refusal. Assumes nothing.
-use Rattle.answer.specs.Basics.{ℕ, Bool, false, ◌||◌, List, [], ◌∷◌, ◌≡◌, eqb, if◌then◌else◌}
+use Rattle.std.specs.Prelude.{ℕ, Bool, false, ◌||◌, List, [], ◌∷◌, ◌≡◌, eqb, if◌then◌else◌}
 use native.Mathlib.Omega.{arith}
 use mathlib.Core.Path.{refl, sym, ap, ◌∙◌}
 use Rattle.answer.specs.Numbers.{refusal_number, verdict_number, OnlyCompleteIs20, OnlyCutIs22, VerdictsAreNoRefusals}

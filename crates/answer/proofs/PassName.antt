@@ -1,5 +1,5 @@
 -- No number but 20 has the word of a pass: one computed test of the list, carried to every number. Assumes nothing.
-use Rattle.answer.specs.Basics.{ℕ, Bool, true, false, not, ◌&&◌, ◌||◌, List, [], ◌∷◌, ◌≡◌, eqb, if◌then◌else◌}
+use Rattle.std.specs.Prelude.{ℕ, Bool, true, false, not, ◌&&◌, ◌||◌, List, [], ◌∷◌, ◌≡◌, eqb, if◌then◌else◌}
 use mathlib.Core.Path.{refl, subst, ◌∙◌}
 use lib.Dec.{T, eqb→eq, eqb_refl}
 use lib.Ieee.Fits.{and_i, and_l, and_r}

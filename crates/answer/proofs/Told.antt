@@ -1,5 +1,5 @@
 -- The number of a fault or a verdict that a match was told. With as many faults as there are, no search finds it. Assumes nothing.
-use Rattle.answer.specs.Basics.{◌≡◌}
+use Rattle.std.specs.Prelude.{◌≡◌}
 use mathlib.Core.Path.{sym, ap}
 use Rattle.answer.specs.{Numbers.verdict_number, Types.Fault, Types.Verdict, Types.Broken}
 

@@ -1,5 +1,5 @@
 -- What an entry answers where it gives no verdict, and what it leaves in lent memory.
-use Rattle.answer.specs.Basics.{ℕ, List, ◌++◌, length, take, drop}
+use Rattle.std.specs.Prelude.{ℕ, List, ◌++◌, length, take, drop}
 use Rattle.answer.specs.{Types.Answer, Types.Refusal, Numbers.refusal_number}
 
 -- "Every refusal has tick 0 and count 0, its step is the offending one for 6 and 7 and otherwise 0."

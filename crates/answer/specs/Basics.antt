@@ -1,11 +1,6 @@
--- The words in which the definitions are written, each as its library defines it, so that a file names them in one line; and three more: a
--- choice by a test, the test that two numbers differ, and a list whose first entry alone is another.
-pub use Rattle.std.specs.Prelude.{ℕ, zero, suc, ◌+◌, ◌-◌, ◌*◌, ◌/◌, ◌%◌, ◌^◌, ◌≤◌, ◌<◌, Bool, true, false, not, ◌&&◌, ◌||◌, List, [], ◌∷◌, ◌++◌, map, ◌↔◌, ◌≡◌, eqb, ltb, leb, length, take, drop, replicate, set, get_or}
-
-infixr 10 if◌then◌else◌
-abbrev pub if◌then◌else◌ : {A : Type 0} → Bool → A → A → A
-if true then a else b = a
-if false then a else b = b
+-- Two words beside the library's in which definitions are written: the test that two numbers differ, and a list whose first entry alone is
+-- another.
+use Rattle.std.specs.Prelude.{ℕ, zero, suc, Bool, not, eqb, List, [], ◌∷◌, replicate}
 
 abbrev pub differs : ℕ → ℕ → Bool
 differs a b = not (eqb a b)

@@ -1,5 +1,5 @@
 -- The word that the programs print for each of the numbers in Numbers.
-use Rattle.answer.specs.Basics.{ℕ, zero, suc, ◌-◌, ◌<◌, List, [], ◌∷◌, ◌++◌, length, drop, replicate, ◌≡◌, eqb, if◌then◌else◌}
+use Rattle.std.specs.Prelude.{ℕ, zero, suc, ◌-◌, ◌<◌, List, [], ◌∷◌, ◌++◌, length, drop, replicate, ◌≡◌, eqb, if◌then◌else◌}
 use Prim.Native.String.{String}
 use Rattle.answer.specs.{Types.Name, Text.ascii, Text.space}
 

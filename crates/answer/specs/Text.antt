@@ -1,6 +1,6 @@
 -- Text as bytes.
 use Prim.Native.Char.{code}
-use Rattle.answer.specs.Basics.{ℕ, ◌+◌, List, [], ◌∷◌}
+use Rattle.std.specs.Prelude.{ℕ, ◌+◌, List, [], ◌∷◌}
 use Prim.Native.String.{String, [] as end, ◌∷◌ as ◌then◌}
 
 -- The bytes of a text; its characters are those of ASCII, one byte each.

@@ -1,5 +1,7 @@
 // What an entry answers: its number, by name, and what goes with it.
-ghost use Rattle.answer.specs.Basics.{◌≡◌};
+#![tactic(auto)]
+
+ghost use Rattle.std.specs.Prelude.{◌≡◌};
 ghost use Rattle.answer.specs.Answers.{refused, accepted};
 
 mod names;
@@ -11,7 +13,7 @@ pub use crate::refusal::Refusal;
 pub use crate::verdict::{Fault, Verdict};
 
 // Document 01: "An answer is a number, a tick, a step and a count."
-#[derive(Drop)]
+#[derive(Clone, Copy)]
 pub struct Answer {
     pub number: u8,
     pub tick: u32,

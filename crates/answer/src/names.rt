@@ -1,9 +1,9 @@
 // One word for each number of an answer, after document 01's tables and document 02's requests.
-ghost use Rattle.answer.specs.Basics.{◌+◌, ◌≤◌, length};
+ghost use Rattle.std.specs.Prelude.{◌+◌, ◌≤◌, length};
 ghost use Rattle.answer.specs.Names.{word_at, word_of, Spells};
 
 // The first `length` characters are the word; after it come zeros, one at least, so that it is a text of C as it stands.
-#[derive(Drop)]
+#[derive(Clone, Copy)]
 pub struct Name {
     pub characters: [u8; ROOM],
     pub length: usize,

@@ -1,8 +1,8 @@
 // The refusals of every entry, in the order of document 01's table and of document 02's requests, and their numbers.
-ghost use Rattle.answer.specs.Basics.{◌≡◌};
+ghost use Rattle.std.specs.Prelude.{◌≡◌};
 ghost use Rattle.answer.specs.Numbers.{refusal_number};
 
-#[derive(Drop)]
+#[derive(Clone, Copy)]
 pub enum Refusal {
     ShortFile,
     WrongVersion,

@@ -1,9 +1,9 @@
 // What a reading can come to, and the number that document 01 or a request of document 02 gives each.
-ghost use Rattle.answer.specs.Basics.{◌≡◌};
+ghost use Rattle.std.specs.Prelude.{◌≡◌};
 ghost use Rattle.answer.specs.Numbers.{verdict_number};
 
 // Why a tick ends the reading.
-#[derive(Drop)]
+#[derive(Clone, Copy)]
 pub enum Fault {
     EmptyStream,
     Attention,
@@ -27,7 +27,7 @@ pub enum Fault {
 }
 
 // Only a recording that runs out in phase E, or after the finish of commands, is complete: no tick can decide so.
-#[derive(Drop)]
+#[derive(Clone, Copy)]
 pub enum Verdict {
     Complete,
     Cut,

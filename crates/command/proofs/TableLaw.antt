@@ -1,5 +1,5 @@
 -- Letters that stand for the classes of all bytes, by one computation, stand for that of each. Assumes nothing.
-use Rattle.answer.specs.Basics.{ℕ, ◌<◌, List, get_or, ◌≡◌}
+use Rattle.std.specs.Prelude.{ℕ, ◌<◌, List, get_or, ◌≡◌}
 use Rattle.answer.proofs.Tables.{counted, agree}
 use mathlib.Core.Path.{◌∙◌}
 use Rattle.command.specs.{Types.Class, Classes.class_of, Table.class_by, Table.StandsAt}

@@ -1,5 +1,5 @@
 -- A table whose rows are the words of all classes, by one computation, has the word of each. Assumes nothing.
-use Rattle.answer.specs.Basics.{ℕ, ◌*◌, ◌≤◌, List, [], ◌∷◌, map, get_or, ◌≡◌}
+use Rattle.std.specs.Prelude.{ℕ, ◌*◌, ◌≤◌, List, [], ◌∷◌, map, get_or, ◌≡◌}
 use native.Mathlib.Omega.{arith}
 use mathlib.Core.Path.{ap, subst, ◌∙◌}
 use Rattle.answer.specs.{Types.Name, Names.word_at, Names.Spells}

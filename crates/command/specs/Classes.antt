@@ -1,5 +1,5 @@
 -- Document 02, #101: "a table with one class for each of the 256 command bytes".
-use Rattle.answer.specs.Basics.{ℕ, Bool, ◌&&◌, leb, eqb, if◌then◌else◌}
+use Rattle.std.specs.Prelude.{ℕ, Bool, ◌&&◌, leb, eqb, if◌then◌else◌}
 use Rattle.command.specs.Types.{Class, Listen, Unlisten, Talk, Untalk, Secondary, Close, Open, Other}
 
 -- From one byte to another, both included.

@@ -1,6 +1,6 @@
 -- What the letters of the code's table stand for.
 use Prim.Native.Char.{code}
-use Rattle.answer.specs.Basics.{ℕ, List, get_or, ◌≡◌, eqb, if◌then◌else◌}
+use Rattle.std.specs.Prelude.{ℕ, List, get_or, ◌≡◌, eqb, if◌then◌else◌}
 use Rattle.command.specs.Types.{Class, Listen, Unlisten, Talk, Untalk, Secondary, Close, Open, Other}
 
 unfoldable pub class_by : (letter : ℕ) → Class

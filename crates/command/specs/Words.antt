@@ -1,5 +1,5 @@
 -- The word that the programs print for each class: document 02's.
-use Rattle.answer.specs.Basics.{ℕ, List}
+use Rattle.std.specs.Prelude.{ℕ, List}
 use Rattle.answer.specs.Text.{ascii}
 use Rattle.command.specs.Types.{Class, Listen, Unlisten, Talk, Untalk, Secondary, Close, Open, Other}
 

@@ -1,5 +1,5 @@
 // The classes of command bytes, and the number and the word of each.
-ghost use Rattle.answer.specs.Basics.{◌≡◌};
+ghost use Rattle.std.specs.Prelude.{◌≡◌};
 ghost use Rattle.answer.specs.Names.{Spells};
 ghost use Rattle.command.specs.Classes.{class_number};
 ghost use Rattle.command.specs.Words.{class_word};
@@ -7,7 +7,7 @@ ghost use Rattle.command.specs.Words.{class_word};
 use answer::Name;
 
 // In document 02's order.
-#[derive(Drop)]
+#[derive(Clone, Copy)]
 pub enum Class {
     Listen,
     Unlisten,

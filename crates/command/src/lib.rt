@@ -1,4 +1,6 @@
 // The class of each of the 256 bytes that a command transfer can hand over.
+#![tactic(auto)]
+
 mod class;
 mod table;
 

@@ -1,5 +1,5 @@
 // The table of all command bytes.
-ghost use Rattle.answer.specs.Basics.{◌<◌, length, ◌≡◌};
+ghost use Rattle.std.specs.Prelude.{◌<◌, length, ◌≡◌};
 ghost use Rattle.command.specs.Classes.{class_of};
 ghost use Rattle.command.specs.Table.{class_by, StandsAt};
 

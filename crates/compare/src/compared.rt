@@ -1,5 +1,5 @@
 // One recording before both judges, by the entry of its case: this is the only place where they are called.
-ghost use Rattle.answer.specs.Basics.{◌<◌, ◌≤◌};
+ghost use Rattle.std.specs.Prelude.{◌<◌, ◌≤◌};
 
 use crate::case::{BYTES, Case, LEDGER};
 use crate::entry::Entry;

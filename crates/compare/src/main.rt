@@ -1,4 +1,6 @@
 // The two judges compared, on generated recordings. The last line that is printed must say that there is no difference.
+#![tactic(auto)]
+
 mod case;
 mod classes;
 mod compared;

@@ -1,5 +1,5 @@
 -- A byte of a file's name as it is printed: a control character of ASCII, below 32 or 127, as a question mark.
-use Rattle.answer.specs.Basics.{ℕ, eqb, ltb}
+use Rattle.std.specs.Prelude.{ℕ, eqb, ltb}
 use Rattle.std.specs.Prelude.{cond}
 
 unfoldable pub printable : (byte : ℕ) → ℕ

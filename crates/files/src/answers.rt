@@ -1,5 +1,5 @@
 // An answer as a line of text.
-ghost use Rattle.answer.specs.Basics.{◌≤◌, length};
+ghost use Rattle.std.specs.Prelude.{◌≤◌, length};
 
 use answer::{Answer, Name};
 

@@ -1,5 +1,5 @@
 // The bytes of a file or of standard input.
-ghost use Rattle.answer.specs.Basics.{◌+◌, ◌≤◌, length};
+ghost use Rattle.std.specs.Prelude.{◌+◌, ◌≤◌, length};
 ghost use Rattle.io.specs.Counts.{IsPrefixLen};
 
 // How many bytes were read, and whether a read failed: then these are not all bytes, and errno says why.

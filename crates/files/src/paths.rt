@@ -1,5 +1,5 @@
 // A file's name as it is printed.
-ghost use Rattle.answer.specs.Basics.{map, ◌≡◌};
+ghost use Rattle.std.specs.Prelude.{map, ◌≡◌};
 ghost use Rattle.files.specs.Printable.{printable};
 
 // What stands in place of a control character.

@@ -1,5 +1,5 @@
 // The recording that a program is asked about: the file that an argument names, or standard input.
-ghost use Rattle.answer.specs.Basics.{◌≤◌, length, ◌≡◌};
+ghost use Rattle.std.specs.Prelude.{◌≤◌, length, ◌≡◌};
 ghost use Rattle.io.specs.Counts.{IsPrefixLen};
 
 use crate::input::read_input;

@@ -1,5 +1,5 @@
 -- Demand 3 about a file, from demand 3 over its tick list. Assumes nothing.
-use Rattle.answer.specs.Basics.{ℕ, List, length, take, ◌≡◌}
+use Rattle.std.specs.Prelude.{ℕ, List, length, take, ◌≡◌}
 use mathlib.Core.Path.{sym, ap, subst, subst⁻¹, ◌∙◌}
 use lib.Seq.{take-append_seam}
 use Rattle.recording.specs.{Types.Step, GoodForm.GoodForm, Ticks.steps_of}

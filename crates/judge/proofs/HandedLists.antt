@@ -1,5 +1,5 @@
 -- How bytes that are handed over are stored in the lent buffers. Assumes nothing.
-use Rattle.answer.specs.Basics.{ℕ, ◌+◌, ◌*◌, ◌≤◌, Bool, true, false, List, [], ◌∷◌, ◌++◌, length, set, ◌≡◌, eqb, if◌then◌else◌}
+use Rattle.std.specs.Prelude.{ℕ, ◌+◌, ◌*◌, ◌≤◌, Bool, true, false, List, [], ◌∷◌, ◌++◌, length, set, ◌≡◌, eqb, if◌then◌else◌}
 use mathlib.Core.Path.{refl, sym, ap, ap₂, ◌∙◌}
 use native.Mathlib.Omega.{arith}
 use lib.{ListN.length-set, Seq.sets, Seq.sets-eq}

@@ -1,5 +1,5 @@
 -- What the judge gives, case by case. Assumes nothing.
-use Rattle.answer.specs.Basics.{ℕ, ◌≤◌, ◌<◌, List, length, ◌≡◌}
+use Rattle.std.specs.Prelude.{ℕ, ◌≤◌, ◌<◌, List, length, ◌≡◌}
 use mathlib.Core.Path.{sym, ap, ◌∙◌}
 use borrow.Author.Tests.{lt-ltb, le-ltb}
 use Rattle.answer.specs.{Types.Refusal, Types.ShortBuffers, Answers.refused}

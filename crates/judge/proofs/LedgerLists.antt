@@ -1,5 +1,5 @@
 -- Bytes handed over, as the values and the ticks that the lent buffers begin with. Assumes nothing.
-use Rattle.answer.specs.Basics.{ℕ, ◌*◌, List, [], ◌∷◌, ◌++◌, length, ◌≡◌}
+use Rattle.std.specs.Prelude.{ℕ, ◌*◌, List, [], ◌∷◌, ◌++◌, length, ◌≡◌}
 use mathlib.Core.Path.{refl, ap}
 use native.Mathlib.Omega.{arith}
 use lib.ListN.{length-map}

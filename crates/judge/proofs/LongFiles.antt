@@ -1,5 +1,5 @@
 -- Why a file longer than any recording is answered by its beginning: both are refused, and for the same. Assumes nothing.
-use Rattle.answer.specs.Basics.{[]}
+use Rattle.std.specs.Prelude.{[]}
 use mathlib.Core.{List.append-nil, Path.sym, Path.ap, Path.◌∙◌}
 use Rattle.recording.specs.Form.{form_of}
 use Rattle.recording.proofs.LongFiles.{long_form}

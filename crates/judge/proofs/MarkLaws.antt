@@ -1,5 +1,6 @@
 -- No step of a recording of good form is marked exactly if no tick of its tick list is. Assumes nothing.
-use Rattle.answer.specs.Basics.{ℕ, zero, suc, ◌+◌, ◌≤◌, ◌<◌, Bool, false, List, [], ◌∷◌, ◌++◌, replicate, ◌≡◌, ◌↔◌, first_then}
+use Rattle.std.specs.Prelude.{ℕ, zero, suc, ◌+◌, ◌≤◌, ◌<◌, Bool, false, List, [], ◌∷◌, ◌++◌, replicate, ◌≡◌, ◌↔◌}
+use Rattle.answer.specs.Basics.{first_then}
 use mathlib.Core.Path.{refl, subst, subst⁻¹}
 use native.Mathlib.{Nat.zero-add, Omega.arith}
 use Rattle.recording.specs.{Layout.step_at, Layout.is_marked, GoodForm.GoodStep, GoodForm.GoodForm}

@@ -1,5 +1,5 @@
 -- What the station stands on. Assumes nothing.
-use Rattle.answer.specs.Basics.{ℕ, zero, suc, ◌≤◌, Bool, true, false, List, [], ◌++◌, length, replicate, ◌≡◌, ltb}
+use Rattle.std.specs.Prelude.{ℕ, zero, suc, ◌≤◌, Bool, true, false, List, [], ◌++◌, length, replicate, ◌≡◌, ltb}
 use mathlib.Core.Bool.{false≢true}
 use mathlib.Core.Path.{refl, sym, ap, subst, subst⁻¹, ◌∙◌}
 use native.Mathlib.Omega.{arith}

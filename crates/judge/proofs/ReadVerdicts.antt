@@ -1,5 +1,5 @@
 -- From what was read to what the judge gives. Assumes nothing.
-use Rattle.answer.specs.Basics.{ℕ, ◌≤◌, List, length, ◌≡◌}
+use Rattle.std.specs.Prelude.{ℕ, ◌≤◌, List, length, ◌≡◌}
 use mathlib.Core.Path.{sym, ap, ap₂, ◌∙◌}
 use native.Mathlib.Nat.{zero-add}
 use Rattle.answer.specs.{Types.Answer, Answers.◌over◌, Numbers.verdict_number}

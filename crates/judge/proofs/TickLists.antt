@@ -1,5 +1,5 @@
 -- What the ticks of a recording's steps show: by one step, in spans, and how many bytes they hand over. Assumes nothing.
-use Rattle.answer.specs.Basics.{ℕ, zero, suc, ◌+◌, ◌-◌, ◌≤◌, ◌<◌, Bool, false, List, [], ◌∷◌, ◌++◌, map, length, replicate, ◌≡◌}
+use Rattle.std.specs.Prelude.{ℕ, zero, suc, ◌+◌, ◌-◌, ◌≤◌, ◌<◌, Bool, false, List, [], ◌∷◌, ◌++◌, map, length, replicate, ◌≡◌}
 use Rattle.answer.specs.Basics.{first_then}
 use mathlib.Core.List.{map-append}
 use mathlib.Core.Path.{refl, sym, ap, ap₂, subst, ◌∙◌}

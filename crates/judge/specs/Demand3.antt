@@ -1,5 +1,5 @@
 -- Demand 3 about a file: the statement of the crate transfer (its specs/Demand3.antt), said of what the judge leaves.
-use Rattle.answer.specs.Basics.{ℕ, ◌≤◌, List, [], ◌∷◌, length, ◌≡◌}
+use Rattle.std.specs.Prelude.{ℕ, ◌≤◌, List, [], ◌∷◌, length, ◌≡◌}
 use Rattle.answer.specs.Answers.{first}
 use Rattle.recording.specs.{GoodForm.GoodForm, Ticks.NoStepMarked}
 use Rattle.transfer.specs.{Types.Limits, Types.Byte, Demand3.Demand3}

@@ -1,5 +1,5 @@
 -- What the judge answers and leaves, for any bytes and any lent buffers: document 01, "Numbers and what they leave".
-use Rattle.answer.specs.Basics.{ℕ, suc, ◌-◌, List, [], ◌∷◌, map, length, ltb, if◌then◌else◌}
+use Rattle.std.specs.Prelude.{ℕ, suc, ◌-◌, List, [], ◌∷◌, map, length, ltb, if◌then◌else◌}
 use Rattle.answer.specs.{Types.Answer, Types.ShortBuffers, Answers.refused, Answers.◌over◌, Numbers.verdict_number}
 use Rattle.recording.specs.{Form.form_of, Ticks.Tick as Recorded, Ticks.steps_of, Ticks.ticks}
 use Rattle.recording.specs.Types.{Form, Good, Refused, Step}

@@ -1,5 +1,5 @@
 -- What the station stands on, a line each: of what the judge gives for any recording and any lent buffers.
-use Rattle.answer.specs.Basics.{ℕ, suc, ◌≤◌, ◌<◌, List, ◌≡◌, ◌↔◌}
+use Rattle.std.specs.Prelude.{ℕ, suc, ◌≤◌, ◌<◌, List, ◌≡◌, ◌↔◌}
 use Rattle.answer.specs.{Types.Answer, Numbers.IsVerdict}
 use Rattle.recording.specs.{Layout.header_at, Ticks.steps_from, Ticks.total_ticks}
 use Rattle.transfer.specs.Types.{Entry, Plain, Command, Limits, Phase, End, Finished}

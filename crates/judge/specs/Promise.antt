@@ -1,5 +1,5 @@
 -- What an entry promises that judges a file: of the answer and of both lent buffers, whole, as the call leaves them.
-use Rattle.answer.specs.Basics.{ℕ, List, ◌≡◌}
+use Rattle.std.specs.Prelude.{ℕ, List, ◌≡◌}
 use Rattle.transfer.specs.Types.{Limits}
 use Rattle.judge.specs.{Judged.Judged, Judged.judged, Demand3.GoodWithRoom, Demand3.FileDemand3}
 

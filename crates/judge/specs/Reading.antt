@@ -1,5 +1,5 @@
 -- The reading of a recording as its functions go: what each of them promises to the entry.
-use Rattle.answer.specs.Basics.{ℕ, ◌+◌, ◌*◌, ◌^◌, ◌≤◌, ◌<◌, List, length, set, ◌≡◌, eqb, if◌then◌else◌}
+use Rattle.std.specs.Prelude.{ℕ, ◌+◌, ◌*◌, ◌^◌, ◌≤◌, ◌<◌, List, length, set, ◌≡◌, eqb, if◌then◌else◌}
 use Rattle.answer.specs.{Types.Answer, Answers.◌over◌}
 use Rattle.recording.specs.{Types.Step, Layout.most_steps, Layout.file_length, Ticks.steps_from}
 use Rattle.reader.specs.{After.state_after, After.handed_over, States.first_state}

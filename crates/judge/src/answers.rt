@@ -1,5 +1,5 @@
 // The answer that a reading comes to.
-ghost use Rattle.answer.specs.Basics.{◌≡◌};
+ghost use Rattle.std.specs.Prelude.{◌≡◌};
 ghost use Rattle.recording.specs.{GoodForm.GoodForm, Ticks.steps_from};
 ghost use Rattle.judge.specs.{Judged.step_holding, Reading.state_answer};
 

@@ -1,5 +1,5 @@
 // The judge's entries: for a data transfer and for commands.
-ghost use Rattle.answer.specs.Basics.{◌≡◌};
+ghost use Rattle.std.specs.Prelude.{◌≡◌};
 ghost use Rattle.transfer.specs.Limits.{standard_limits, command_limits};
 ghost use Rattle.judge.specs.{Judged.leaves, Judged.judged, Promise.JudgePromise};
 

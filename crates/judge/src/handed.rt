@@ -1,5 +1,5 @@
 // A byte that is handed over goes to its place in each lent buffer.
-ghost use Rattle.answer.specs.Basics.{◌≡◌};
+ghost use Rattle.std.specs.Prelude.{◌≡◌};
 ghost use Rattle.judge.specs.Reading.{Storable, with_byte, with_ticks};
 
 use reader::State;

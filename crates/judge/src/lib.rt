@@ -1,4 +1,6 @@
 // A recording judged into lent buffers.
+#![tactic(auto)]
+
 mod answers;
 mod entry;
 mod handed;

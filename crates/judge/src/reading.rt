@@ -1,5 +1,5 @@
 // The reading of a recording: step after step, and in each step tick after tick, idle ticks in one move.
-ghost use Rattle.answer.specs.Basics.{◌≡◌};
+ghost use Rattle.std.specs.Prelude.{◌≡◌};
 ghost use Rattle.judge.specs.Reading.{Readable, reached, read_into, ticks_from};
 
 use crate::handed;

@@ -1,6 +1,6 @@
 -- What the code's `if let` and `_` tell of a phase: its place among the variants of `Phase`, `Hold` being 2, `Carried` 10, E 11, after
 -- the finish 12 and `Decided` 13. Assumes nothing.
-use Rattle.answer.specs.Basics.{ℕ, Bool, false, List, [], ◌∷◌, ◌≡◌}
+use Rattle.std.specs.Prelude.{ℕ, Bool, false, List, [], ◌∷◌, ◌≡◌}
 use mathlib.Core.Path.{refl, sym, ap, subst}
 use denote.Enum.Declared.{tag_of}
 use types.Run.{OneOf, miss}

@@ -1,6 +1,6 @@
 -- In which phase a recording can run out: a data transfer never after the finish of commands, and commands never in E where the last tick
 -- shows ATN released. Assumes nothing.
-use Rattle.answer.specs.Basics.{ℕ, Bool, true, false, List, [], ◌∷◌, map, ◌≡◌}
+use Rattle.std.specs.Prelude.{ℕ, Bool, true, false, List, [], ◌∷◌, map, ◌≡◌}
 use mathlib.Core.Bool.{false≢true}
 use mathlib.Core.Path.{refl, ap, ◌∙◌, subst}
 use Rattle.transfer.specs.{Moves.is_decided, Moves.heed, Rules.last_of, Ticks.lines_in}

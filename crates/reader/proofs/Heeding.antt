@@ -1,5 +1,5 @@
 -- A tick where no verdict has fallen: a marked one, and one that ATN leaves to the rows or does not. Assumes nothing.
-use Rattle.answer.specs.Basics.{Bool, true, false, not, ◌≡◌}
+use Rattle.std.specs.Prelude.{Bool, true, false, not, ◌≡◌}
 use mathlib.Core.Bool.{false≢true}
 use mathlib.Core.Path.{refl, sym, ap, ◌∙◌}
 use Rattle.answer.specs.Types.{Attention, Overrun}

@@ -1,5 +1,5 @@
 -- Idle ticks: after a tick that goes on, the same lines keep the phase until its own limit. Assumes nothing.
-use Rattle.answer.specs.Basics.{ℕ, zero, suc, ◌+◌, ◌-◌, ◌≤◌, ◌<◌, Bool, true, false, ◌++◌, replicate, ◌≡◌, ltb, if◌then◌else◌}
+use Rattle.std.specs.Prelude.{ℕ, zero, suc, ◌+◌, ◌-◌, ◌≤◌, ◌<◌, Bool, true, false, ◌++◌, replicate, ◌≡◌, ltb, if◌then◌else◌}
 use native.Mathlib.Omega.{arith}
 use mathlib.Core.Bool.{false≢true}
 use mathlib.Core.Path.{refl, sym, ap, subst⁻¹, ◌∙◌}

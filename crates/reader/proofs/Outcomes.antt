@@ -1,6 +1,6 @@
 -- What the states come to is the outcome of specs/Outcome.antt of the crate below, where what follows a tick is a function of the phase
 -- alone. Assumes nothing.
-use Rattle.answer.specs.Basics.{ℕ, suc, ◌+◌, true, false, List, [], ◌∷◌, ◌++◌, ◌≡◌}
+use Rattle.std.specs.Prelude.{ℕ, suc, ◌+◌, true, false, List, [], ◌∷◌, ◌++◌, ◌≡◌}
 use native.Mathlib.{Omega.arith, Numerals.add-one}
 use mathlib.Core.Path.{refl, sym, ap, ap₂, ◌∙◌}
 use borrow.Author.Tests.{eq-eqb, ne_eqb}

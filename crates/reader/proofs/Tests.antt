@@ -1,5 +1,5 @@
 -- What a proof searches with where the table goes by a line, a time or the bits left. Assumes nothing.
-use Rattle.answer.specs.Basics.{ℕ, zero, suc, ◌+◌, ◌-◌, ◌^◌, ◌<◌, Bool, true, false, ◌≡◌, ltb, leb}
+use Rattle.std.specs.Prelude.{ℕ, zero, suc, ◌+◌, ◌-◌, ◌^◌, ◌<◌, Bool, true, false, ◌≡◌, ltb, leb}
 use native.Mathlib.Omega.{arith}
 use mathlib.Core.Path.{refl, sym, ap, subst, ◌∙◌}
 use borrow.Author.Tests.{eq-eqb, ne_eqb, lt-ltb, le-ltb, leb-true, leb-false}
@@ -27,11 +27,11 @@ below_on n s t e = e
 pub below_off : (n s t : ℕ) → below n s t ≡ false → below n s t ≡ false
 below_off n s t e = e
 
-pub up_to-on : (n s t : ℕ) → up_to n s t ≡ true → up_to n s t ≡ true
-up_to-on n s t e = e
+pub up_to_on : (n s t : ℕ) → up_to n s t ≡ true → up_to n s t ≡ true
+up_to_on n s t e = e
 
-pub up_to-off : (n s t : ℕ) → up_to n s t ≡ false → up_to n s t ≡ false
-up_to-off n s t e = e
+pub up_to_off : (n s t : ℕ) → up_to n s t ≡ false → up_to n s t ≡ false
+up_to_off n s t e = e
 
 pub same_on : (a b : Bool) → same a b ≡ true → same a b ≡ true
 same_on a b e = e
@@ -97,8 +97,8 @@ pub ruleset tests = (
   data_off,
   below_on,
   below_off,
-  up_to-on,
-  up_to-off,
+  up_to_on,
+  up_to_off,
   same_on,
   same_off,
   last_bit,

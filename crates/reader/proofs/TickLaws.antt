@@ -1,5 +1,5 @@
 -- What a loop over the ticks keeps. Assumes nothing.
-use Rattle.answer.specs.Basics.{◌+◌, ◌≤◌, Bool, true, false, List, [], ◌∷◌, ◌++◌, length, ◌≡◌, eqb, if◌then◌else◌}
+use Rattle.std.specs.Prelude.{◌+◌, ◌≤◌, Bool, true, false, List, [], ◌∷◌, ◌++◌, length, ◌≡◌, eqb, if◌then◌else◌}
 use native.Mathlib.Omega.{arith}
 use mathlib.Core.Bool.{true≢false}
 use mathlib.Core.Path.{refl, sym, ap, subst, ◌∙◌}

@@ -1,5 +1,5 @@
 -- A tick list read from a state on.
-use Rattle.answer.specs.Basics.{List, [], ◌∷◌, ◌++◌, ◌≡◌, eqb, if◌then◌else◌}
+use Rattle.std.specs.Prelude.{List, [], ◌∷◌, ◌++◌, ◌≡◌, eqb, if◌then◌else◌}
 use Rattle.transfer.specs.{Types.Limits, Types.Tick, Types.Byte, Moves.held_byte, Moves.decision_of, Outcome.Outcome, Outcome.outcome}
 use Rattle.reader.specs.States.{first_state, next_state}
 use Rattle.reader.specs.declared.state.State.{State}

@@ -1,6 +1,6 @@
 -- Idle ticks: those that only add one to the tick. A row of the table that goes on leads to a phase that the same lines keep, until the
 -- phase's own limit: so the further ticks of a step can be passed over in one move.
-use Rattle.answer.specs.Basics.{ℕ, ◌+◌, ◌-◌, ◌≤◌, false, List, ◌++◌, replicate, ◌≡◌, ltb, if◌then◌else◌}
+use Rattle.std.specs.Prelude.{ℕ, ◌+◌, ◌-◌, ◌≤◌, false, List, ◌++◌, replicate, ◌≡◌, ltb, if◌then◌else◌}
 use Rattle.transfer.specs.{Moves.is_decided, Ticks.tick}
 use Rattle.transfer.specs.Types.{Limits, Lines, Tick, Phase, Start, FirstHold, Hold, ReadyToSend, ReadyForData, Acknowledgement}
 use Rattle.transfer.specs.Types.{Acknowledged, SetUp, Valid, Open, Carried, End, Finished, Decided}

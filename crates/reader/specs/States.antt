@@ -1,5 +1,5 @@
 -- "Reading goes from state to state, one tick after another, and stops for good at the deciding tick."
-use Rattle.answer.specs.Basics.{◌+◌, ◌^◌, ◌<◌, Bool, true, false}
+use Rattle.std.specs.Prelude.{◌+◌, ◌^◌, ◌<◌, Bool, true, false}
 use Rattle.answer.specs.Types.{Attention}
 use Rattle.transfer.specs.Moves.{stage, no_byte, finishing, released, heed, move}
 use Rattle.transfer.specs.Phases.{Move, Go, Hand, Stop, next}

@@ -1,5 +1,5 @@
 // What ATN means: it is looked at before the phase's rows.
-ghost use Rattle.answer.specs.Basics.{◌≡◌};
+ghost use Rattle.std.specs.Prelude.{◌≡◌};
 ghost use Rattle.reader.specs.States.{is_under_way, turned_in, released_in, finished_in, Countable};
 
 use crate::offset::{below, up_to};

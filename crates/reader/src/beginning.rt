@@ -1,5 +1,5 @@
 // Phases A start, B hold and C ready to send.
-ghost use Rattle.answer.specs.Basics.{◌≡◌};
+ghost use Rattle.std.specs.Prelude.{◌≡◌};
 ghost use Rattle.reader.specs.States.{read_in, Countable};
 
 use crate::offset::below;

@@ -1,5 +1,5 @@
 // The eight bits of a byte, least significant first: set-up and valid.
-ghost use Rattle.answer.specs.Basics.{◌≡◌};
+ghost use Rattle.std.specs.Prelude.{◌≡◌};
 ghost use Rattle.transfer.specs.Phases.{same, with_bit};
 ghost use Rattle.reader.specs.States.{read_in, Countable};
 

@@ -1,5 +1,5 @@
 // Phase E end.
-ghost use Rattle.answer.specs.Basics.{◌≡◌};
+ghost use Rattle.std.specs.Prelude.{◌≡◌};
 ghost use Rattle.reader.specs.States.{read_in, Countable};
 
 use crate::state::State;

@@ -1,5 +1,5 @@
 // Phases D ready for data, F acknowledgement and G: whether the byte to come has the end mark.
-ghost use Rattle.answer.specs.Basics.{◌≡◌};
+ghost use Rattle.std.specs.Prelude.{◌≡◌};
 ghost use Rattle.transfer.specs.Phases.{long_silence};
 ghost use Rattle.reader.specs.States.{read_in, Countable};
 

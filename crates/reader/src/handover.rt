@@ -1,5 +1,5 @@
 // The handover: from the CLK pull after bit 8 to the receiver's take.
-ghost use Rattle.answer.specs.Basics.{◌≡◌};
+ghost use Rattle.std.specs.Prelude.{◌≡◌};
 ghost use Rattle.transfer.specs.Phases.{handover};
 ghost use Rattle.reader.specs.States.{follow, read_in, Countable};
 

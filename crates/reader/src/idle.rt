@@ -1,5 +1,5 @@
 // Idle ticks: those that only add one to the tick. A loop over a step's ticks passes over them in one move.
-ghost use Rattle.answer.specs.Basics.{◌+◌, ◌^◌, ◌<◌, ◌≡◌};
+ghost use Rattle.std.specs.Prelude.{◌+◌, ◌^◌, ◌<◌, ◌≡◌};
 ghost use Rattle.reader.specs.Idle.{ticks_below, idle_ticks, later};
 
 use crate::state::State;

@@ -1,4 +1,6 @@
 // A transfer read tick after tick: the state of the reading, and one tick of it by what ATN means and by the rows of its phase.
+#![tactic(auto)]
+
 mod attention; // what ATN means, and the finish of commands
 mod beginning; // phases A, B and C
 mod bits; // set-up and valid

@@ -1,5 +1,5 @@
 // How far a tick is from the first tick of a phase. Only ever compared, never subtracted: a phase keeps its first tick.
-ghost use Rattle.answer.specs.Basics.{◌≡◌};
+ghost use Rattle.std.specs.Prelude.{◌≡◌};
 ghost use Rattle.transfer.specs.Phases.{below, up_to};
 
 // `now` is fewer than `limit` ticks after `since`.

@@ -1,5 +1,5 @@
 // The state of the reading, and one tick of it.
-ghost use Rattle.answer.specs.Basics.{◌^◌, ◌<◌, ◌≡◌, if◌then◌else◌};
+ghost use Rattle.std.specs.Prelude.{◌^◌, ◌<◌, ◌≡◌, if◌then◌else◌};
 ghost use Rattle.transfer.specs.Moves.{is_decided, held_byte, decision_of};
 ghost use Rattle.transfer.specs.Phases.{below, up_to, Go, Stop};
 ghost use Rattle.reader.specs.States.{follow, handed_on, read_in, next_state, first_state, Countable};
@@ -10,7 +10,7 @@ use answer::Fault;
 use transfer::{Byte, Decision, Limits, Lines, Phase, Tick};
 
 // `tick` is the next tick to be read, or the deciding one; `count` bytes were handed over.
-#[derive(Drop)]
+#[derive(Clone, Copy)]
 pub struct State {
     pub phase: Phase,
     pub tick: u32,

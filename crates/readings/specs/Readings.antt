@@ -1,6 +1,6 @@
 -- Where two rows of document 01, of #101 or of #103 meet: tick lists whose outcomes show how they are read there, and on which tick each
 -- time falls. docs/DECISIONS.md gives the reasons.
-use Rattle.answer.specs.Basics.{ℕ, Bool, true, ◌&&◌, List, [], ◌∷◌, ◌++◌, length, ◌≡◌, eqb}
+use Rattle.std.specs.Prelude.{ℕ, Bool, true, ◌&&◌, List, [], ◌∷◌, ◌++◌, length, ◌≡◌, eqb}
 use Rattle.transfer.specs.{Types.Limits, Limits.standard_limits, Limits.command_limits, Outcome.outcome}
 use Rattle.transfer.specs.Spans.{Span, ticks, ◌∶◌, lost, opening, bits, till41, s1, attended, listen}
 use Rattle.answer.specs.Numbers.{verdict_number}

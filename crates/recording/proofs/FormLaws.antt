@@ -1,5 +1,5 @@
 -- How the form of a recording is decided, a test at a time. Each law takes what the code has read and what its test gave. Assumes nothing.
-use Rattle.answer.specs.Basics.{ℕ, ◌+◌, ◌-◌, ◌≤◌, ◌<◌, List, length, ◌≡◌}
+use Rattle.std.specs.Prelude.{ℕ, ◌+◌, ◌-◌, ◌≤◌, ◌<◌, List, length, ◌≡◌}
 use mathlib.Core.Path.{◌∙◌}
 use native.Mathlib.{Nat.sub-zero, Nat.add-zero, Nat.add_assoc, Numerals.add-one, Omega.arith}
 use borrow.Author.Tests.{lt-ltb, le-ltb}

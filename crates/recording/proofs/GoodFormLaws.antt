@@ -1,5 +1,6 @@
 -- A recording is not refused exactly if it has all that `GoodForm` says. Assumes nothing.
-use Rattle.answer.specs.Basics.{ℕ, zero, suc, ◌+◌, ◌≤◌, ◌<◌, List, length, ◌≡◌, ltb, differs}
+use Rattle.std.specs.Prelude.{ℕ, zero, suc, ◌+◌, ◌≤◌, ◌<◌, List, length, ◌≡◌, ltb}
+use Rattle.answer.specs.Basics.{differs}
 use mathlib.Core.Path.{refl, sym, ap, ◌∙◌}
 use native.Mathlib.{Nat.add-zero, Nat.zero-add, Omega.arith}
 use borrow.Author.Tests.{le-ltb, eq-eqb}

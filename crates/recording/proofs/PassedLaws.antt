@@ -1,5 +1,6 @@
 -- A header and a step pass their tests exactly if they are good. Assumes nothing.
-use Rattle.answer.specs.Basics.{ℕ, ◌≤◌, ◌≡◌, eqb, ltb, leb, differs}
+use Rattle.std.specs.Prelude.{ℕ, ◌≤◌, ◌≡◌, eqb, ltb, leb}
+use Rattle.answer.specs.Basics.{differs}
 use native.Mathlib.Omega.{arith}
 use borrow.Author.Tests.{ltb-false, leb-false, eqb-false, le-ltb, lt-leb, eq-eqb, ne_eqb}
 use Rattle.recording.specs.{Types.Header, Types.Step, Types.Passed, Form.header_test, Form.step_test, GoodForm.GoodStep}

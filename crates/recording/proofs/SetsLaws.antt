@@ -1,5 +1,5 @@
 -- Runs of stores: one run after another is one run. Assumes nothing.
-use Rattle.answer.specs.Basics.{ℕ, suc, ◌+◌, List, [], ◌∷◌, ◌++◌, length, set, ◌≡◌}
+use Rattle.std.specs.Prelude.{ℕ, suc, ◌+◌, List, [], ◌∷◌, ◌++◌, length, set, ◌≡◌}
 use mathlib.Core.Path.{sym}
 use native.Mathlib.{Nat.add-zero, Numerals.add-one, Omega.arith}
 use lib.Seq.{sets}

@@ -1,5 +1,6 @@
 -- How the steps of a recording, and their ticks, go on by one step: for a loop at step i of n. Assumes nothing.
-use Rattle.answer.specs.Basics.{ℕ, zero, suc, ◌+◌, ◌-◌, ◌≤◌, ◌<◌, false, List, [], ◌∷◌, ◌++◌, length, replicate, get_or, ◌≡◌, first_then}
+use Rattle.std.specs.Prelude.{ℕ, zero, suc, ◌+◌, ◌-◌, ◌≤◌, ◌<◌, false, List, [], ◌∷◌, ◌++◌, length, replicate, get_or, ◌≡◌}
+use Rattle.answer.specs.Basics.{first_then}
 use mathlib.Core.Path.{refl, ap}
 use native.Mathlib.{Numerals.add-one, Omega.arith}
 use lib.ListN.{length-append, length-replicate}

@@ -1,5 +1,6 @@
 -- What a test says: the rules that a proof searches with where a definition goes by tests, and what a passed test leaves. Assumes nothing.
-use Rattle.answer.specs.Basics.{ℕ, Bool, true, false, ◌≡◌, eqb, differs, if◌then◌else◌}
+use Rattle.std.specs.Prelude.{ℕ, Bool, true, false, ◌≡◌, eqb, if◌then◌else◌}
+use Rattle.answer.specs.Basics.{differs}
 use mathlib.Core.Path.{refl}
 use native.Mathlib.Omega.{arith}
 use borrow.Author.Tests.{lt-ltb, le-ltb, le-leb, lt-leb, eq-eqb, ne_eqb, eqb-true, not-false}

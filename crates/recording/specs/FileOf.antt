@@ -1,5 +1,5 @@
 -- The other way round: the bytes of a recording that has given steps.
-use Rattle.answer.specs.Basics.{ℕ, ◌/◌, ◌%◌, ◌≤◌, List, [], ◌∷◌, ◌++◌, length, ◌≡◌}
+use Rattle.std.specs.Prelude.{ℕ, ◌/◌, ◌%◌, ◌≤◌, List, [], ◌∷◌, ◌++◌, length, ◌≡◌}
 use Rattle.recording.specs.{Types.Header, Types.Step, Ticks.steps_of, Ticks.total_ticks, GoodForm.GoodStep, GoodForm.GoodForm}
 use Rattle.recording.specs.Layout.{header_size, good_version, most_steps, longest_duration, file_length}
 

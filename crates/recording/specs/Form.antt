@@ -1,5 +1,6 @@
 -- The refusals 1 to 8 of document 01, "tested in this order", each row's words beside its test.
-use Rattle.answer.specs.Basics.{ℕ, suc, List, [], ◌∷◌, length, eqb, ltb, leb, differs, if◌then◌else◌}
+use Rattle.std.specs.Prelude.{ℕ, suc, List, [], ◌∷◌, length, eqb, ltb, leb, if◌then◌else◌}
+use Rattle.answer.specs.Basics.{differs}
 use Rattle.recording.specs.Ticks.{steps_of, total_ticks}
 use Rattle.recording.specs.Layout.{header_at, header_size, good_version, most_steps, line_bound, mark, file_length}
 use Rattle.recording.specs.Types.{Header, Step, Test, Passed, Failed, Form, Good, Refused}

@@ -1,5 +1,5 @@
 -- What holds of a recording of good form.
-use Rattle.answer.specs.Basics.{ℕ, ◌≤◌, ◌<◌, List, length, ◌≡◌, ◌↔◌}
+use Rattle.std.specs.Prelude.{ℕ, ◌≤◌, ◌<◌, List, length, ◌≡◌, ◌↔◌}
 use Rattle.recording.specs.{Types.Good, Types.Step, Form.form_of, Ticks.ticks_of}
 use Rattle.recording.specs.Layout.{byte_at, header_at, step_at, header_size, good_version, most_steps, line_bound, mark, file_length}
 

@@ -1,5 +1,5 @@
 -- Document 01, "Recording layout": a header of 16 bytes, then steps of 4 bytes each, little-endian.
-use Rattle.answer.specs.Basics.{ℕ, ◌+◌, ◌*◌, Bool, List, get_or, eqb}
+use Rattle.std.specs.Prelude.{ℕ, ◌+◌, ◌*◌, Bool, List, get_or, eqb}
 use Rattle.recording.specs.Types.{Header, Step}
 
 abbrev pub header_size : ℕ

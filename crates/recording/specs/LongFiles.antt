@@ -1,6 +1,7 @@
 -- A file longer than any recording: however it goes on, its beginning decides for what it is refused. So a reader may leave off after
 -- one byte more than the longest recording has.
-use Rattle.answer.specs.Basics.{ℕ, ◌<◌, List, ◌++◌, length, ◌≡◌, ltb, differs, if◌then◌else◌}
+use Rattle.std.specs.Prelude.{ℕ, ◌<◌, List, ◌++◌, length, ◌≡◌, ltb, if◌then◌else◌}
+use Rattle.answer.specs.Basics.{differs}
 use Rattle.recording.specs.{Types.Header, Types.Refused, Form.form_of}
 use Rattle.recording.specs.Layout.{header_at, header_size, good_version, most_steps, file_length}
 use Rattle.answer.specs.Types.{Refusal, WrongVersion, TooManySteps, WrongOffset, WrongLength}

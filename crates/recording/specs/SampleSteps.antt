@@ -1,5 +1,5 @@
 -- Recordings written out as steps, and document 01's S1 so: its steps, and its whole file as it is printed there.
-use Rattle.answer.specs.Basics.{ℕ, zero, suc, List, [], ◌∷◌, ◌++◌}
+use Rattle.std.specs.Prelude.{ℕ, zero, suc, List, [], ◌∷◌, ◌++◌}
 use Rattle.recording.specs.{Types.Step, Layout.mark}
 
 -- A step, "as duration:lines".

@@ -1,5 +1,6 @@
 -- The steps of a recording, and the list of ticks that they mean.
-use Rattle.answer.specs.Basics.{ℕ, zero, suc, ◌+◌, ◌≤◌, ◌<◌, Bool, false, List, [], ◌∷◌, ◌++◌, get_or, ◌≡◌, first_then}
+use Rattle.std.specs.Prelude.{ℕ, zero, suc, ◌+◌, ◌≤◌, ◌<◌, Bool, false, List, [], ◌∷◌, ◌++◌, get_or, ◌≡◌}
+use Rattle.answer.specs.Basics.{first_then}
 use Rattle.recording.specs.{Types.Step, Layout.header_at, Layout.step_at, Layout.is_marked}
 
 -- The n steps from step i on.

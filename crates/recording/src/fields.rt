@@ -1,5 +1,5 @@
 // Little-endian numbers of two and of four bytes.
-ghost use Rattle.answer.specs.Basics.{◌+◌, ◌*◌, ◌≤◌, length, ◌≡◌};
+ghost use Rattle.std.specs.Prelude.{◌+◌, ◌*◌, ◌≤◌, length, ◌≡◌};
 ghost use Rattle.std.proofs.lemmas.List.Edits.{sets};
 ghost use Rattle.recording.specs.{Layout.u16_at, Layout.u32_at, FileOf.two_bytes, FileOf.four_bytes};
 

@@ -1,5 +1,5 @@
 // Whether a recording is of good form, and if not, what it is refused for.
-ghost use Rattle.answer.specs.Basics.{◌≤◌, length, ◌≡◌};
+ghost use Rattle.std.specs.Prelude.{◌≤◌, length, ◌≡◌};
 ghost use Rattle.recording.specs.{Layout.most_steps, Layout.file_length, Form.form_of, Form.body_form, Ticks.steps_from};
 
 use crate::header::Header;

@@ -1,5 +1,5 @@
 // The header: the first sixteen bytes of a recording.
-ghost use Rattle.answer.specs.Basics.{◌≤◌, length, ◌≡◌};
+ghost use Rattle.std.specs.Prelude.{◌≤◌, length, ◌≡◌};
 ghost use Rattle.std.proofs.lemmas.List.Edits.{sets};
 ghost use Rattle.recording.specs.{Layout.header_at, Layout.header_size, Form.header_test, FileOf.header_bytes, FileOf.good_header};
 

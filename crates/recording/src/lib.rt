@@ -1,4 +1,6 @@
 // The recording file: its header and steps, the test of its form, and the refusals that the test gives.
+#![tactic(auto)]
+
 mod fields;
 mod form;
 mod header;

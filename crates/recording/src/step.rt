@@ -1,5 +1,5 @@
 // One step: the lines as they stand for a number of ticks.
-ghost use Rattle.answer.specs.Basics.{◌+◌, ◌≤◌, length, ◌≡◌};
+ghost use Rattle.std.specs.Prelude.{◌+◌, ◌≤◌, length, ◌≡◌};
 ghost use Rattle.std.proofs.lemmas.List.Edits.{sets};
 ghost use Rattle.recording.specs.{Layout.step_at, Layout.step_place, Layout.step_size, Layout.is_marked, Form.step_test, FileOf.step_bytes};
 

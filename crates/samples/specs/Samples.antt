@@ -1,6 +1,6 @@
 -- Document 01, "Sample recordings": the starred ones, in its order, each judged as a whole file; a cut after a byte; every refusal;
 -- recordings for the command entry; and marked ones.
-use Rattle.answer.specs.Basics.{ℕ, zero, suc, ◌+◌, List, [], ◌∷◌, ◌++◌, map, replicate, ◌≡◌}
+use Rattle.std.specs.Prelude.{ℕ, zero, suc, ◌+◌, List, [], ◌∷◌, ◌++◌, map, replicate, ◌≡◌}
 use Rattle.answer.specs.{Types.Answer, Answers.◌over◌}
 use Rattle.recording.specs.{Types.Step, FileOf.header_bytes, FileOf.file_of}
 use Rattle.recording.specs.SampleSteps.{◌∶◌, lost, zeros, s1_with, s1, s80_with, s1_file}

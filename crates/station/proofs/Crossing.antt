@@ -1,5 +1,5 @@
 -- What an entry promises of its answer, it promises of the same four numbers at the border. Assumes nothing.
-use Rattle.answer.specs.Basics.{ℕ, List, ◌≡◌}
+use Rattle.std.specs.Prelude.{ℕ, List, ◌≡◌}
 use mathlib.Core.Path.{refl, subst, subst⁻¹, ◌∙◌}
 use Rattle.answer.specs.{Types.Answer, Types.Name, Names.Spells}
 use Rattle.command.specs.{Types.Class, Words.class_word}

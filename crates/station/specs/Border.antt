@@ -1,5 +1,5 @@
 -- What the border's types stand for: an answer of the same four numbers, a name of the same characters.
-use Rattle.answer.specs.Basics.{ℕ, List, length}
+use Rattle.std.specs.Prelude.{ℕ, List, length}
 use Rattle.answer.specs.Types.{Answer, Name}
 use Rattle.station.specs.declared.StationAnswer.{StationAnswer}
 use Rattle.station.specs.declared.StationWord.{StationWord}

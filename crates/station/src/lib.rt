@@ -1,5 +1,7 @@
 // The station's entries for programs in C and Rust. Each hands the lent memory on and the answer back, and does nothing else.
-ghost use Rattle.answer.specs.Basics.{◌≡◌};
+#![tactic(auto)]
+
+ghost use Rattle.std.specs.Prelude.{◌≡◌};
 ghost use Rattle.answer.specs.Names.{word_of, Spells};
 ghost use Rattle.command.specs.{Classes.class_of, Classes.class_number, Words.class_word};
 ghost use Rattle.transfer.specs.Limits.{command_limits, standard_limits};

@@ -1,13 +1,13 @@
 -- ATN in a tick list that a pair gives. Assumes nothing.
-use Rattle.answer.specs.Basics.{ℕ, zero, suc, Bool, true, false, List, [], ◌∷◌, ◌++◌, map, length, replicate, ◌≡◌}
+use Rattle.std.specs.Prelude.{ℕ, zero, suc, Bool, true, false, List, [], ◌∷◌, ◌++◌, map, length, replicate, ◌≡◌}
 use mathlib.Core.Path.{refl, sym, ap, ap₂, ◌∙◌}
 use lib.ListN.{length-map, length-replicate}
 use Rattle.transfer.specs.Types.{Entry, Plain, Command, Limits, Lines}
-use Rattle.transfer.specs.{Rules.SendingRules, Rules.PlanRules, Facts.UntilFinish, Facts.AttentionIs, Facts.AttentionLaw}
-use Rattle.transfer.specs.Parties.{Pulls, pulls, past, attention, sets, offers, Bit, Frame, Free, Sending, more, last}
+use Rattle.transfer.specs.{Rules.SendingRules, Rules.PlanRules, Facts.AttentionLaw}
+use Rattle.transfer.specs.Parties.{Pulls, pulls, past, attention, sets, Bit, Frame, Free, Sending, more, last}
 use Rattle.transfer.specs.Parties.{last_command, Plan}
 use Rattle.transfer.specs.Parties.{free_tick, bits_track, handover_track, frame_track, sending_track, track}
-use Rattle.transfer.specs.{Pair.sender_pulls, Pair.receiver_pulls, Pair.attention_track, Pair.gives, Demand3.Explained}
+use Rattle.transfer.specs.{Pair.sender_pulls, Pair.receiver_pulls, Pair.attention_track, Pair.gives}
 use Rattle.transfer.proofs.Stages.{plain_is_no_command}
 
 abbrev atn : List Lines → List Bool

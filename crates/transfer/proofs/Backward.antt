@@ -1,6 +1,6 @@
 -- A complete recording has a pair: the run read back as a plan, row by row. Assumes nothing.
-use Rattle.answer.specs.Basics.{ℕ, zero, suc, ◌+◌, ◌≤◌, ◌<◌, Bool, true, false, List, [], ◌∷◌, ◌++◌, map, replicate, ◌≡◌, eqb, ltb, leb}
-use Rattle.answer.specs.Basics.{if◌then◌else◌}
+use Rattle.std.specs.Prelude.{ℕ, zero, suc, ◌+◌, ◌≤◌, ◌<◌, Bool, true, false, List, [], ◌∷◌, ◌++◌, map, replicate, ◌≡◌, eqb, ltb, leb}
+use Rattle.std.specs.Prelude.{if◌then◌else◌}
 use native.Mathlib.Omega.{arith}
 use mathlib.Core.Logic.{inl, inr}
 use mathlib.Core.Path.{refl, ap, ◌∙◌, subst, subst⁻¹}
@@ -251,7 +251,7 @@ module _ (L : Limits) where
     row_ready_for_data some-handed s true d now w ih i =
         if_below _ _ _ _ _ _ _
         (λ a. goes (sets d) (λ js l h. leaves (inl (a, (d, one h))))
-        (ih (suc now) (SetUp false 0 d now 7) (omega (arith, times.set-up_some))))
+        (ih (suc now) (SetUp false 0 d now 7) (omega (arith, times.set_up_some))))
     row_ready_for_data some-handed s false true now w ih i =
         unless_below _ _ _ _ _ _ _
         (λ a. goes held (λ js l h. leaves (inr (a, i, one h)))
@@ -264,7 +264,7 @@ module _ (L : Limits) where
     row_acknowledged some-handed s ready-tick false true now w ih i = dead _ _ _
     row_acknowledged some-handed s ready-tick true d now w ih i =
         if_up_to _ _ _ _ _ _ _
-        (λ a. goes (sets d) (λ js l h. leaves (a, (d, one h))) (ih (suc now) (SetUp true 0 d now 7) (omega (arith, times.set-up_some))))
+        (λ a. goes (sets d) (λ js l h. leaves (a, (d, one h))) (ih (suc now) (SetUp true 0 d now 7) (omega (arith, times.set_up_some))))
     row_acknowledged false s ready-tick false false now w ih i =
         if_below _ _ _ _ _ _ _ (λ a. goes nobody (λ js l h. stay h) (ih (suc now) (Acknowledged false s ready-tick) tt))
     row_acknowledged true s ready-tick false false now w ih i =
@@ -319,7 +319,7 @@ module _ (L : Limits) where
     row_valid end_mark (suc bits_left) value s b true d now w ih i =
         unless_below _ _ _ _ _ _ _
         (λ a. goes (sets d) (λ js l h. leaves (a, i, (d, one h)))
-        (ih (suc now) (SetUp end_mark (with_bit value b) d now bits_left) (omega (arith, times.set-up_some))))
+        (ih (suc now) (SetUp end_mark (with_bit value b) d now bits_left) (omega (arith, times.set_up_some))))
     row_valid end_mark zero value s b true false now w ih i =
         unless_below _ _ _ _ _ _ _
         (λ a. goes clock (λ js l h. leaves (a, i, opens (one h)))

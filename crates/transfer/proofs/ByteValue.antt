@@ -1,5 +1,5 @@
 -- Eight bits taken in one after another make the byte that the sender's bits are worth. Assumes nothing.
-use Rattle.answer.specs.Basics.{ℕ, ◌+◌, ◌*◌, ◌/◌, ◌≤◌, Bool, true, false, List, [], ◌∷◌, map, length, ◌≡◌, if◌then◌else◌}
+use Rattle.std.specs.Prelude.{ℕ, ◌+◌, ◌*◌, ◌/◌, ◌≤◌, Bool, true, false, List, [], ◌∷◌, map, length, ◌≡◌, if◌then◌else◌}
 use native.Mathlib.Omega.{arith}
 use Rattle.transfer.specs.{Phases.with_bit, Parties.Bit, Parties.value_of, Rules.last_of}
 
@@ -24,10 +24,10 @@ weighs : (w : ℕ) (b : Bool) → (if b then w else 0) ≡ w * one b
 weighs w true = omega arith
 weighs w false = omega arith
 
-with_bit-is : (v : ℕ) (b : Bool) → with_bit v b ≡ v / 2 + 128 * one b
+with_bit_is : (v : ℕ) (b : Bool) → with_bit v b ≡ v / 2 + 128 * one b
 unfolding with_bit
-with_bit-is v true = omega arith
-with_bit-is v false = omega arith
+with_bit_is v true = omega arith
+with_bit_is v false = omega arith
 
 octet : (a b c d e f g h : Bool)
     → with_bit (with_bit (with_bit (with_bit (with_bit (with_bit (with_bit (with_bit 0 a) b) c) d) e) f) g) h
@@ -35,14 +35,14 @@ octet : (a b c d e f g h : Bool)
     + ((if e then 16 else 0) + ((if f then 32 else 0) + ((if g then 64 else 0) + ((if h then 128 else 0) + 0)))))))
 octet a b c d e f g h =
     rw (
-      with_bit-is _ h,
-      with_bit-is _ g,
-      with_bit-is _ f,
-      with_bit-is _ e,
-      with_bit-is _ d,
-      with_bit-is _ c,
-      with_bit-is _ b,
-      with_bit-is 0 a,
+      with_bit_is _ h,
+      with_bit_is _ g,
+      with_bit_is _ f,
+      with_bit_is _ e,
+      with_bit_is _ d,
+      with_bit_is _ c,
+      with_bit_is _ b,
+      with_bit_is 0 a,
       weighs 2 b,
       weighs 4 c,
       weighs 8 d,

@@ -1,5 +1,5 @@
 -- Demand 3 over tick lists, for all times that are consistent, and at document 01's own. Assumes nothing.
-use Rattle.answer.specs.Basics.{ℕ, Bool, false, ◌||◌, List, [], ◌∷◌, map, ◌≡◌}
+use Rattle.std.specs.Prelude.{ℕ, Bool, false, ◌||◌, List, [], ◌∷◌, map, ◌≡◌}
 use native.Mathlib.Omega.{arith}
 use mathlib.Core.Path.{refl, sym, ap, ap₂, ◌∙◌, subst, subst⁻¹}
 use Rattle.transfer.specs.{Limits.standard_limits, Limits.command_limits, Outcome.run, Outcome.outcome}
@@ -139,7 +139,7 @@ standard_consistent =
       acknowledge_some = omega arith;
       acknowledge_room = omega arith;
       timeout = omega arith;
-      set-up_some = omega arith;
+      set_up_some = omega arith;
       valid_some = omega arith;
       valid_room = omega arith;
       keep_some = omega arith;
@@ -160,7 +160,7 @@ commands_consistent L t =
       acknowledge_some = t.acknowledge_some;
       acknowledge_room = t.acknowledge_room;
       timeout = omega (arith, t.end_mark_in_time, t.timeout);
-      set-up_some = t.set-up_some;
+      set_up_some = t.set_up_some;
       valid_some = t.valid_some;
       valid_room = t.valid_room;
       keep_some = t.keep_some;

@@ -1,6 +1,6 @@
 -- Facts that keep the statements from being empty or wide.
 -- Assumes nothing.
-use Rattle.answer.specs.Basics.{ℕ, suc, ◌+◌, ◌*◌, ◌^◌, ◌≤◌, ◌<◌, Bool, true, false, List, [], ◌∷◌, ◌++◌, length, ◌≡◌, if◌then◌else◌}
+use Rattle.std.specs.Prelude.{ℕ, suc, ◌+◌, ◌*◌, ◌^◌, ◌≤◌, ◌<◌, Bool, true, false, List, [], ◌∷◌, ◌++◌, length, ◌≡◌, if◌then◌else◌}
 use native.Mathlib.{Omega.arith, Nat.pow-suc}
 use mathlib.Core.Path.{refl, sym, ap, ◌∙◌, subst}
 use borrow.Author.Rules.{rules}
@@ -11,7 +11,7 @@ use Rattle.transfer.specs.{Demand3.CompleteWith, Moves.finishing, Moves.heed}
 use Rattle.transfer.specs.{Moves.unless_marked, Moves.move}
 use Rattle.transfer.specs.Spans.{◌∶◌, ticks, s1, listen}
 use Rattle.transfer.specs.Phases.{Stop, below, up_to, next, same, with_bit, handover, after_bit}
-use Rattle.transfer.specs.Parties.{Bit, Frame, Free, Plan, Sending, more, last, last_command, value_of, sending_bytes, plan_bytes}
+use Rattle.transfer.specs.Parties.{Bit, Frame, Free, Plan, Sending, more, last, last_command, value_of, sending_bytes, plan_bytes, after_frame}
 use Rattle.transfer.specs.Rules.{BitRule, FrameRules, SendingRules, PlanRules}
 use Rattle.transfer.specs.Pair.{sender_track, receiver_track, attention_track, gives, values}
 use Rattle.transfer.specs.Facts.{AllBytes, SomeBytes, PairSendsBytes, S1Explained, LostThoughExplained, one_tick, frame80}
@@ -42,7 +42,8 @@ is_byte L f rules =
     omega arith
 
 sends_bytes : (L : Limits) (now : ℕ) (s : Sending) → SendingRules L s → AllBytes (values (sending_bytes now s))
-sends_bytes L now (more gap f wait rest) rules = (is_byte L f rules.0.frame, sends_bytes L _ rest rules.1)
+sends_bytes L now (more gap f wait rest) rules =
+    (is_byte L f rules.0.frame, sends_bytes L (after_frame (now + gap) f + wait) rest rules.1)
 sends_bytes L now (last gap ack resp f wait silence) rules = (is_byte L f rules.frame, tt)
 sends_bytes L now (last_command gap f after) rules = (is_byte L f rules.frame, tt)
 
@@ -65,10 +66,10 @@ unfolding below up_to next same with_bit handover after_bit move run
 lost_though_explained = record { has_pair = s1_explained; is_broken = refl }
 
 -- The byte 0x80 keeps the rules, at document 01's times for bits and handover.
-module _ (L : Limits) (set-up : L.set_up_most ≡ 200) (valid_least : L.valid_least ≡ 20) (valid_most : L.valid_most ≡ 200)
+module _ (L : Limits) (set_up : L.set_up_most ≡ 200) (valid_least : L.valid_least ≡ 20) (valid_most : L.valid_most ≡ 200)
     (keep : L.keep_most ≡ 100) (latest : L.take_latest ≡ 1000) (between : L.between_bytes ≡ 100) where
   bit_keeps : (b : Bool) → BitRule L (one_tick b)
-  bit_keeps b = record { set-up = omega arith; valid_least = omega arith; valid_most = omega arith; steady = refl }
+  bit_keeps b = record { set_up = omega arith; valid_least = omega arith; valid_most = omega arith; steady = refl }
 
   frame80_keeps : (let_go take release : ℕ) → let_go ≤ 100 → 1 ≤ take → take ≤ 60 → take + 100 ≤ release
       → FrameRules L (frame80 let_go take release)
@@ -76,7 +77,7 @@ module _ (L : Limits) (set-up : L.set_up_most ≡ 200) (valid_least : L.valid_le
       let o = bit_keeps false in
       record {
         bits = record { eight = refl; each = (o, (o, (o, (o, (o, (o, (o, (bit_keeps true, tt)))))))) };
-        handover = record { keeps = omega arith; zero_keeps_not = no_zero; take-least = b; take-most = omega arith };
+        handover = record { keeps = omega arith; zero_keeps_not = no_zero; take_least = b; take_most = omega arith };
         release = record { after_take = omega arith };
       }
     where
@@ -94,8 +95,8 @@ explains80 L q p rules string e =
     }
 
 plan80_keeps : (L : Limits) (sending : Sending) → SendingRules L sending → PlanRules L (plan80 sending)
-plan80_keeps L sending rules =
-    record { first_take = search rules; first_release = search rules; first_let_go = search rules; sending = rules }
+plan80_keeps L sending held =
+    record { first_take = search rules; first_release = search rules; first_let_go = search rules; sending = held }
 
 -- Two pairs for one recording.
 byte80_keeps : (let_go take : ℕ) → let_go ≤ 100 → 1 ≤ take → take ≤ 60 → PlanRules standard_limits (byte80 let_go take)

@@ -1,6 +1,6 @@
 -- A pair's recording is complete: the run goes along a plan, phase by phase. Assumes nothing.
-use Rattle.answer.specs.Basics.{ℕ, zero, suc, ◌+◌, ◌≤◌, ◌<◌, Bool, true, false, ◌||◌, List, [], ◌∷◌, ◌++◌, map, length, replicate, ◌≡◌}
-use Rattle.answer.specs.Basics.{if◌then◌else◌}
+use Rattle.std.specs.Prelude.{ℕ, zero, suc, ◌+◌, ◌≤◌, ◌<◌, Bool, true, false, ◌||◌, List, [], ◌∷◌, ◌++◌, map, length, replicate, ◌≡◌}
+use Rattle.std.specs.Prelude.{if◌then◌else◌}
 use native.Mathlib.Omega.{arith}
 use mathlib.Core.List.{append-nil}
 use mathlib.Core.Path.{refl, sym, ap, ◌∙◌, subst, subst⁻¹}
@@ -131,7 +131,7 @@ module _ (L : Limits) where
       (map (shows L) js)
   unfolding next
   along_bit end_mark bits_left value s x js one rules =
-      along_set_up end_mark bits_left value s (suc s) x.first x.others _ (omega (arith, rules.set-up))
+      along_set_up end_mark bits_left value s (suc s) x.first x.others _ (omega (arith, rules.set_up))
       ∙ ap (λ (b : Bool). run L (suc s + length x.others) (SetUp end_mark value b s bits_left)
       (map (shows L) (replicate x.valid (offers x.bit) ++ js))) (sym rules.steady)
       ∙ enters (SetUp end_mark value x.bit s bits_left) (Valid end_mark value x.bit (suc s + length x.others) bits_left)
@@ -341,7 +341,7 @@ module _ (L : Limits) where
         → let f : Frame = record { bits = bits; let_go = l; take = t; release = n } in
         FrameRules L f → Leaves end_mark js (after_frame e f) r → Hands (run L e p (map (shows L) (frame_ticks f js))) r (byte_of e f)
     along_fields end_mark p e [] l t n js r b rules after = absurd (omega (arith, rules.bits.eight))
-    along_fields end_mark p e (x ∷ xs) l zero n js r b rules after = absurd (omega (arith, rules.handover.take-least))
+    along_fields end_mark p e (x ∷ xs) l zero n js r b rules after = absurd (omega (arith, rules.handover.take_least))
     along_fields end_mark p e (x ∷ xs) l (suc t) zero js r b rules after = absurd (omega (arith, rules.release.after_take))
     along_fields end_mark p e (x ∷ xs) l (suc t) (suc n) js r b rules after =
         let seven : length xs ≡ 7 = omega (arith, rules.bits.eight) in
@@ -354,7 +354,7 @@ module _ (L : Limits) where
         ∙ seven_left end_mark e x.first _ seven
         ∙ along_bits end_mark 0 e x xs (is_positive l) (handover_ticks n (less l) t ++ js) rules.bits.each.0 rules.bits.each.1)
         (along_handover end_mark (taken_in 0 (x ∷ xs)) since (since + suc t) (since + suc n) js r after (omega arith)
-        (omega (arith, rules.handover.take-most))
+        (omega (arith, rules.handover.take_most))
         (omega (arith, rules.release.after_take, times.keep_release, times.keep_some)) (omega (arith, rules.release.after_take))
         (last_bit x.bit xs) l t n rules.handover.zero_keeps_not rules.handover.keeps refl refl))
 

@@ -1,5 +1,5 @@
 -- What a marked tick does to what the ticks before it come to. Assumes nothing.
-use Rattle.answer.specs.Basics.{ℕ, suc, ◌+◌, true, false, List, [], ◌∷◌, ◌++◌, length, ◌≡◌}
+use Rattle.std.specs.Prelude.{ℕ, suc, ◌+◌, true, false, List, [], ◌∷◌, ◌++◌, length, ◌≡◌}
 use native.Mathlib.Omega.{arith}
 use mathlib.Core.Bool.{true≢false}
 use mathlib.Core.Path.{refl, sym, ap, ◌∙◌}

@@ -1,5 +1,5 @@
 -- The shapes of specs' tracks as plans: what follows a letting go is what a plan that keeps the rules sends. Assumes nothing.
-use Rattle.answer.specs.Basics.{ℕ, zero, suc, ◌+◌, ◌≤◌, Bool, true, false, List, [], ◌∷◌, ◌++◌, map, length, replicate, ◌≡◌}
+use Rattle.std.specs.Prelude.{ℕ, zero, suc, ◌+◌, ◌≤◌, Bool, true, false, List, [], ◌∷◌, ◌++◌, map, length, replicate, ◌≡◌}
 use native.Mathlib.Omega.{arith}
 use mathlib.Core.Logic.{inl, inr}
 use mathlib.Core.Path.{refl, sym, ap, ap₂, ◌∙◌, subst, subst⁻¹, subst₂}
@@ -92,8 +92,8 @@ module _ (L : Limits) where
         (record {
           keeps = omega arith;
           zero_keeps_not = λ z. refl;
-          take-least = c.some;
-          take-most = omega (arith, c.ends, c.after.0);
+          take_least = c.some;
+          take_most = omega (arith, c.ends, c.after.0);
         })
         (subst⁻¹ (λ (x : ℕ). Holding end_mark value l e x x (x + L.between_bytes) c.rest) c.ends (joined c.after.1))
     handover_plan end_mark bit8 value e js l (carries b f) = at f.after
@@ -110,8 +110,8 @@ module _ (L : Limits) where
             (record {
               keeps = omega (arith, a.ends, a.after.0);
               zero_keeps_not = no_zero a.count;
-              take-least = omega (arith, c.some);
-              take-most = omega (arith, c.ends, a.ends, c.after.0);
+              take_least = omega (arith, c.some);
+              take_most = omega (arith, c.ends, a.ends, c.after.0);
             })
             (subst⁻¹ (λ (x : ℕ). Holding end_mark value l a.till x x (x + L.between_bytes) c.rest) (omega
             (arith, c.ends, a.ends))
@@ -121,8 +121,8 @@ module _ (L : Limits) where
             (record {
               keeps = times.keep_some;
               zero_keeps_not = no_zero 1;
-              take-least = omega arith;
-              take-most = omega (arith, times.keep_take);
+              take_least = omega arith;
+              take_most = omega (arith, times.keep_take);
             })
             (subst₂ (λ (x y : ℕ). Holding end_mark value l (e + 1) (e + 1) x y f.rest) (omega arith) (omega arith) h)
 
@@ -162,7 +162,7 @@ module _ (L : Limits) where
           number = ap suc r.number;
           rules = (
             record {
-              set-up = omega (arith, s.ends, s.fits);
+              set_up = omega (arith, s.ends, s.fits);
               valid_least = omega (arith, o.ends, o.after.0);
               valid_most = omega (arith, o.ends, o.after.1);
               steady = refl;

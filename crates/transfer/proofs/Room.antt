@@ -1,5 +1,6 @@
 -- The room law: a byte takes nineteen steps at the least. Assumes nothing.
-use Rattle.answer.specs.Basics.{ℕ, zero, suc, ◌+◌, ◌*◌, ◌≤◌, Bool, true, false, List, [], ◌∷◌, ◌++◌, length, replicate, ◌≡◌, first_then}
+use Rattle.std.specs.Prelude.{ℕ, zero, suc, ◌+◌, ◌*◌, ◌≤◌, Bool, true, false, List, [], ◌∷◌, ◌++◌, length, replicate, ◌≡◌}
+use Rattle.answer.specs.Basics.{first_then}
 use native.Mathlib.Omega.{arith}
 use mathlib.Core.Path.{ap}
 use Rattle.transfer.specs.{Outcome.onward, Outcome.run, Outcome.outcome, Spans.Span, Ticks.tick, Spans.ticks}

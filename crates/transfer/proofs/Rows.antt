@@ -3,7 +3,7 @@
 -- the lines stay. Where it leads to the end, the finish tick is the tick itself or the one that stood. A byte that it hands over is
 -- the one that the phase holds, and was taken by then. The same of the finish of commands.
 -- Assumes nothing.
-use Rattle.answer.specs.Basics.{ℕ, zero, suc, ◌+◌, ◌-◌, ◌*◌, ◌≤◌, ◌<◌, Bool, true, false, not, ◌&&◌, ◌≡◌, eqb, ltb, leb, if◌then◌else◌}
+use Rattle.std.specs.Prelude.{ℕ, zero, suc, ◌+◌, ◌-◌, ◌*◌, ◌≤◌, ◌<◌, Bool, true, false, not, ◌&&◌, ◌≡◌, eqb, ltb, leb, if◌then◌else◌}
 use native.Mathlib.Omega.{arith}
 use mathlib.Core.Path.{refl, ap}
 use borrow.Author.Tests.{ltb-false, leb-false}

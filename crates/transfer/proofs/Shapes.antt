@@ -1,6 +1,6 @@
 -- What may follow in each phase of a run that ends complete, as ticks of both tracks: so many ticks of one kind, then a tick of another.
 -- Assumes nothing.
-use Rattle.answer.specs.Basics.{ℕ, zero, suc, ◌+◌, ◌≤◌, ◌<◌, Bool, true, false, List, [], ◌∷◌, ◌++◌, map, length, replicate, ◌≡◌}
+use Rattle.std.specs.Prelude.{ℕ, zero, suc, ◌+◌, ◌≤◌, ◌<◌, Bool, true, false, List, [], ◌∷◌, ◌++◌, map, length, replicate, ◌≡◌}
 use native.Mathlib.Omega.{arith}
 use mathlib.Core.{Path.refl, Path.ap, Path.◌∙◌, Logic.◌⊎◌}
 use Rattle.transfer.specs.{Phases.with_bit, Rules.last_of, Rules.SendingRules}

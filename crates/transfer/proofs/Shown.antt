@@ -1,6 +1,6 @@
 -- The shown pair of a tidy plan's recording and of the plan's own ticks is the plan's tracks. Assumes nothing.
-use Rattle.answer.specs.Basics.{ℕ, zero, suc, ◌+◌, ◌≤◌, ◌<◌, Bool, true, false, ◌||◌, List, [], ◌∷◌, ◌++◌, map, length, replicate, ◌≡◌}
-use Rattle.answer.specs.Basics.{if◌then◌else◌}
+use Rattle.std.specs.Prelude.{ℕ, zero, suc, ◌+◌, ◌≤◌, ◌<◌, Bool, true, false, ◌||◌, List, [], ◌∷◌, ◌++◌, map, length, replicate, ◌≡◌}
+use Rattle.std.specs.Prelude.{if◌then◌else◌}
 use native.Mathlib.Omega.{arith}
 use mathlib.Core.Bool.{true≢false}
 use mathlib.Core.Path.{refl, ap, ◌∙◌, subst, subst⁻¹}
@@ -147,7 +147,7 @@ shows_free {L = L} c now (x ∷ after) off =
     record {
       is =
           one c x.clk x.sender x.receiver off.0
-          ∙ ap (λ y. bare (free_tick x) ∷ y) (shows_free x.clk (suc now) after off.1).is;
+          ∙ ap (λ y. bare (free_tick x) ∷ y) (shows_free {L = L} x.clk (suc now) after off.1).is;
     }
   where
     one : (b c s r : Bool) → s ≡ false
@@ -165,7 +165,7 @@ shows_free {L = L} c now (x ∷ after) off =
 
 shows_finish : {L : Limits} (now : ℕ) (after : List Free) → KeepsOff after → Same L now (holding []) (finish_tick ∷ map free_tick after)
 unfolding shown_from
-shows_finish now after off = record { is = ap (λ x. clock_held ∷ x) (shows_free true (suc now) after off).is }
+shows_finish {L = L} now after off = record { is = ap (λ x. clock_held ∷ x) (shows_free {L = L} true (suc now) after off).is }
 
 shows_end : {L : Limits} (n now : ℕ) → Same L now (waiting []) (replicate n nobody)
 unfolding shown_from
@@ -186,7 +186,7 @@ module _ (L : Limits) (times : Consistent L) where
   shows_sending now (more gap f wait rest) rules tidy =
       waits_on false gap now
       (shows_frame f _ rules.0.frame tidy.0
-      (holds_waits wait _ rules.0.let_go.later (shows_sending _ rest rules.1 tidy.1)))
+      (holds_waits wait _ rules.0.let_go.later (shows_sending (after_frame (now + gap) f + wait) rest rules.1 tidy.1)))
   shows_sending now (last gap ack resp f wait silence) rules tidy =
       waits_on false gap now
       (waits_on true ack _

@@ -1,5 +1,5 @@
 -- What the stage tells of a phase, what keeps one running, and what ATN leaves of a tick. Assumes nothing.
-use Rattle.answer.specs.Basics.{ℕ, Bool, true, false, ◌≡◌}
+use Rattle.std.specs.Prelude.{ℕ, Bool, true, false, ◌≡◌}
 use mathlib.Core.Bool.{false≢true}
 use mathlib.Core.Path.{refl, sym, ap, ◌∙◌, subst, subst⁻¹}
 use Rattle.answer.specs.Types.{Fault, Attention, Overrun}

@@ -1,5 +1,5 @@
 -- Demand 3 over tick lists.
-use Rattle.answer.specs.Basics.{ℕ, suc, ◌+◌, ◌≤◌, ◌<◌, Bool, List, map, ◌≡◌, ◌↔◌}
+use Rattle.std.specs.Prelude.{ℕ, suc, ◌+◌, ◌≤◌, ◌<◌, Bool, List, map, ◌≡◌, ◌↔◌}
 use Rattle.transfer.specs.{Types.Command, Types.Limits, Types.Lines, Types.Tick, Types.Byte, Limits.standard_limits}
 use Rattle.transfer.specs.{Limits.for_commands, Limits.command_limits, Outcome.outcome, Shown.shown, Ticks.lines_in, Ticks.Unmarked}
 use Rattle.transfer.specs.Pair.{SenderPulls, sender_pulls, receiver_pulls, attention_track, gives, values, Pair, SameOrLater}
@@ -21,7 +21,7 @@ pub record Consistent (L : Limits) : Type 0 where
   -- G: the time-out doesn't cut the sender's response off.
   pub timeout : L.end_mark_latest + L.acknowledge_most + L.response ≤ L.sender_timeout
   -- Bits: a set-up and a valid time last a tick at the least, and a bit has time to be valid long enough.
-  pub set-up_some : 1 ≤ L.set_up_most
+  pub set_up_some : 1 ≤ L.set_up_most
   pub valid_some : 1 ≤ L.valid_least
   pub valid_room : L.valid_least ≤ L.valid_most
   -- Handover: the sender may keep DATA for a tick; it stops before the receiver's time is over, and before CLK is released.

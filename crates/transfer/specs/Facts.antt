@@ -1,5 +1,5 @@
 -- Facts that keep the statements from being empty or wide.
-use Rattle.answer.specs.Basics.{ℕ, suc, ◌≤◌, ◌<◌, Bool, true, false, List, [], ◌∷◌, ◌++◌, map, length, replicate, ◌≡◌}
+use Rattle.std.specs.Prelude.{ℕ, suc, ◌≤◌, ◌<◌, Bool, true, false, List, [], ◌∷◌, ◌++◌, map, length, replicate, ◌≡◌}
 use Rattle.transfer.specs.Types.{Plain, Command, Limits, Lines, Tick, Byte}
 use Rattle.transfer.specs.{Limits.standard_limits, Limits.command_limits, Outcome.outcome, Moves.broken_at, Spans.Span}
 use Rattle.transfer.specs.Demand3.{Explains, Explained}

@@ -1,6 +1,6 @@
 -- The times of document 01: "each house time has one name, used wherever the time is meant". H marks a house limit, 000 and 003
 -- the source that gives the others, also where document 01's row does not name it.
-use Rattle.answer.specs.Basics.{◌-◌}
+use Rattle.std.specs.Prelude.{◌-◌}
 use Rattle.transfer.specs.Types.{Limits, Plain, Command}
 
 abbrev pub standard_limits : Limits

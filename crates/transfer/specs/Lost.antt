@@ -1,6 +1,6 @@
 -- What a marked tick does, said of whole tick lists and without the table. #103: it "gives verdict 40, before ATN is looked at, also in
 -- E, at tick 0 and after #101's finish".
-use Rattle.answer.specs.Basics.{ℕ, List, ◌∷◌, ◌++◌, length, true, ◌≡◌}
+use Rattle.std.specs.Prelude.{ℕ, List, ◌∷◌, ◌++◌, length, true, ◌≡◌}
 use Rattle.answer.specs.Types.{Overrun, Verdict, Complete, Cut, Broken}
 use Rattle.transfer.specs.{Types.Limits, Types.Tick, Moves.broken_at, Outcome.Outcome, Outcome.outcome}
 

@@ -1,5 +1,5 @@
 -- What a tick does, and what the recording comes to where it runs out.
-use Rattle.answer.specs.Basics.{ℕ, ◌+◌, Bool, true, false}
+use Rattle.std.specs.Prelude.{ℕ, ◌+◌, Bool, true, false}
 use Rattle.transfer.specs.Phases.{below, Move, Go, Hand, Stop, next}
 use Rattle.transfer.specs.Types.{Entry, Plain, Command, Limits, Tick, Byte, Phase, Start, FirstHold, Hold, ReadyToSend}
 use Rattle.transfer.specs.Types.{ReadyForData, Acknowledgement}

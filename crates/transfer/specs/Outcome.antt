@@ -1,6 +1,6 @@
 -- The outcome of a tick list: verdict, deciding tick, the bytes handed over and for each its two ledger ticks. "Reading goes from state to
 -- state, one tick after another, and stops for good at the deciding tick."
-use Rattle.answer.specs.Basics.{ℕ, suc, List, [], ◌∷◌}
+use Rattle.std.specs.Prelude.{ℕ, suc, List, [], ◌∷◌}
 use Rattle.transfer.specs.Moves.{move, decision_of, broken_at}
 use Rattle.transfer.specs.Phases.{Move, Go, Hand, Stop}
 use Rattle.transfer.specs.Types.{Limits, Tick, Byte, Phase, Start, Decision}

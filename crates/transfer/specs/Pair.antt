@@ -1,5 +1,5 @@
 -- A pair of a sender and a receiver for a string, what it gives, and its two ticks for each byte.
-use Rattle.answer.specs.Basics.{ℕ, ◌≤◌, Bool, ◌||◌, List, [], ◌∷◌, map, ◌≡◌}
+use Rattle.std.specs.Prelude.{ℕ, ◌≤◌, Bool, ◌||◌, List, [], ◌∷◌, map, ◌≡◌}
 use Rattle.transfer.specs.{Types.Entry, Types.Limits, Types.Lines, Types.Byte, Rules.PlanRules}
 use Rattle.transfer.specs.Parties.{Pulls, pulls, past, attention, Plan, track, plan_bytes}
 

@@ -1,6 +1,6 @@
 -- "The two parties' own rules" of document 01, and #101's for commands: what a sender and a receiver choose, and the tracks that it makes.
 -- Nothing here comes from the judge's phases: the two share the times, what a tick shows and the ledger's record alone.
-use Rattle.answer.specs.Basics.{ℕ, zero, suc, ◌+◌, Bool, true, false, List, [], ◌∷◌, ◌++◌, map, length, replicate, ltb, leb, if◌then◌else◌}
+use Rattle.std.specs.Prelude.{ℕ, zero, suc, ◌+◌, Bool, true, false, List, [], ◌∷◌, ◌++◌, map, length, replicate, ltb, leb, if◌then◌else◌}
 use Rattle.transfer.specs.Types.{Entry, Plain, Command, Byte}
 
 -- One tick of both tracks: the sender's CLK and DATA pulls, the receiver's DATA pull. `past` is one from the finish of commands on.

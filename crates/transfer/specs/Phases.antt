@@ -1,7 +1,7 @@
 -- "The judge's phases" of document 01: what a tick that ATN leaves to them does in each phase, row by row, in the paper's order.
 -- Lines stand as (CLK, DATA), true when pulled; `now` is the tick. A clause below is a row there; where a row has two
 -- answers by the time, the clause has an `if`. `L` holds the times.
-use Rattle.answer.specs.Basics.{ℕ, zero, suc, ◌+◌, ◌/◌, Bool, true, false, not, eqb, ltb, leb, if◌then◌else◌}
+use Rattle.std.specs.Prelude.{ℕ, zero, suc, ◌+◌, ◌/◌, Bool, true, false, not, eqb, ltb, leb, if◌then◌else◌}
 use Rattle.transfer.specs.Types.{Entry, Plain, Command, Limits, Byte, Phase, Start, FirstHold, Hold, ReadyToSend, ReadyForData}
 use Rattle.transfer.specs.Types.{Acknowledgement}
 use Rattle.transfer.specs.Types.{Acknowledged, SetUp, Valid, Open, Carried, End, Finished, Decided}

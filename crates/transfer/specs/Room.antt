@@ -1,5 +1,5 @@
 -- The room law: a byte takes at least nineteen steps, or spans of equal lines.
-use Rattle.answer.specs.Basics.{◌*◌, ◌≤◌, ◌<◌, List, length}
+use Rattle.std.specs.Prelude.{◌*◌, ◌≤◌, ◌<◌, List, length}
 use Rattle.transfer.specs.{Types.Limits, Outcome.outcome, Spans.Span, Spans.ticks}
 
 pub record Room (L : Limits) (spans : List Span) : Type 0 where

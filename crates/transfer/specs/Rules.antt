@@ -1,6 +1,6 @@
 -- The rules that both parties keep: the bullets of "The two parties' own rules", in their order, with #101's words for commands beside
 -- them, and then what they ask of a byte, of a sending and of a plan. "Every change is dated by the first tick that shows it."
-use Rattle.answer.specs.Basics.{ℕ, suc, ◌+◌, ◌≤◌, ◌<◌, Bool, false, List, [], ◌∷◌, map, length, ◌≡◌}
+use Rattle.std.specs.Prelude.{ℕ, suc, ◌+◌, ◌≤◌, ◌<◌, Bool, false, List, [], ◌∷◌, map, length, ◌≡◌}
 use Rattle.transfer.specs.Types.{Plain, Command, Limits}
 use Rattle.transfer.specs.Parties.{Bit, Frame, Sending, more, last, last_command, Plan}
 
@@ -50,7 +50,7 @@ module _ (L : Limits) where
   -- "The sender sends eight bits with the set-up, valid and steadiness rules above; .." Steady: the first valid tick shows the DATA
   -- of the last set-up tick, and the further ones keep it.
   pub record BitRule (x : Bit) : Type 0 where
-    pub set-up : suc (length x.others) ≤ L.set_up_most
+    pub set_up : suc (length x.others) ≤ L.set_up_most
     pub valid_least : L.valid_least ≤ x.valid
     pub valid_most : x.valid ≤ L.valid_most
     pub steady : x.bit ≡ last_of x.first x.others
@@ -68,8 +68,8 @@ module _ (L : Limits) where
   pub record HandoverRule (bit8 : Bool) (let_go take : ℕ) : Type 0 where
     pub keeps : let_go ≤ L.keep_most
     pub zero_keeps_not : bit8 ≡ false → let_go ≡ 0
-    pub take-least : 1 ≤ take
-    pub take-most : take ≤ L.take_latest
+    pub take_least : 1 ≤ take
+    pub take_most : take ≤ L.take_latest
 
   -- "The tick of the last letting go is in the recording, and from it on nobody pulls anything."
   pub record SilenceRule (silence : ℕ) : Type 0 where

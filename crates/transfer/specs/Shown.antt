@@ -1,5 +1,5 @@
 -- The shown pair: "read off the recording and the ledger". ATN plays no part in it.
-use Rattle.answer.specs.Basics.{ℕ, suc, Bool, true, false, List, [], ◌∷◌, ltb, if◌then◌else◌}
+use Rattle.std.specs.Prelude.{ℕ, suc, Bool, true, false, List, [], ◌∷◌, ltb, if◌then◌else◌}
 use Rattle.transfer.specs.{Types.Lines, Types.Byte, Parties.Pulls, Parties.pulls}
 
 -- Whose turn on DATA it is, with the bytes of the ledger that are left: the receiver's, while CLK is not yet released since

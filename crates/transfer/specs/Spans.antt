@@ -1,5 +1,6 @@
 -- Ticks in spans of equal lines, as the steps of a recording show them; document 01's S1 and a command recording written so.
-use Rattle.answer.specs.Basics.{ℕ, ◌+◌, Bool, true, false, List, [], ◌∷◌, ◌++◌, first_then}
+use Rattle.std.specs.Prelude.{ℕ, ◌+◌, Bool, true, false, List, [], ◌∷◌, ◌++◌}
+use Rattle.answer.specs.Basics.{first_then}
 use Rattle.transfer.specs.{Types.Lines, Types.Tick, Lines.lines_of, Ticks.tick}
 
 -- So many ticks that show the same lines; `marked`: ticks were lost before the first of them.

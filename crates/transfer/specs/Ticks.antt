@@ -1,5 +1,5 @@
 -- What a tick shows, and lists of ticks: the lines, and whether ticks were lost before it.
-use Rattle.answer.specs.Basics.{Bool, false, List, [], ◌∷◌, map, ◌≡◌}
+use Rattle.std.specs.Prelude.{Bool, false, List, [], ◌∷◌, map, ◌≡◌}
 use Rattle.transfer.specs.Types.{Lines, Tick}
 
 abbrev pub tick : (marked : Bool) → Lines → Tick

@@ -1,11 +1,11 @@
 // What a recording comes to.
-ghost use Rattle.answer.specs.Basics.{◌≡◌};
+ghost use Rattle.std.specs.Prelude.{◌≡◌};
 ghost use Rattle.transfer.specs.Moves.{complete_at, cut_at, broken_at};
 
 use answer::{Fault, Verdict};
 
 // A verdict with its deciding tick.
-#[derive(Drop)]
+#[derive(Clone, Copy)]
 pub struct Decision {
     pub verdict: Verdict,
     pub tick: u32,

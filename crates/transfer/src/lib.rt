@@ -1,4 +1,6 @@
 // One transfer, of data or of commands: what a tick shows, the times, the phases of document 01 and what they come to.
+#![tactic(auto)]
+
 mod decision;
 mod limits;
 mod lines;

@@ -1,16 +1,16 @@
 // What a transfer is judged by: which entry it was handed to, and the times of document 01, in ticks of 1 µs. Each time has one name, used
 // wherever it is meant. H marks a house limit, 000 and 003 the source that gives the others.
-ghost use Rattle.answer.specs.Basics.{◌≡◌};
+ghost use Rattle.std.specs.Prelude.{◌≡◌};
 ghost use Rattle.transfer.specs.Limits.{standard_limits, command_limits};
 
 // A data transfer has ATN released throughout, commands have it pulled until their finish.
-#[derive(Drop)]
+#[derive(Clone, Copy)]
 pub enum Entry {
     Plain,
     Command,
 }
 
-#[derive(Drop)]
+#[derive(Clone, Copy)]
 pub struct Limits {
     pub entry: Entry,
     pub presence: u32,

@@ -1,9 +1,9 @@
 // The lines at one tick, decoded from a line byte in this place alone.
-ghost use Rattle.answer.specs.Basics.{◌≡◌};
+ghost use Rattle.std.specs.Prelude.{◌≡◌};
 ghost use Rattle.transfer.specs.Lines.{lines_of};
 
 // A line is true when pulled. SRQ changes no answer and is not looked at.
-#[derive(Drop)]
+#[derive(Clone, Copy)]
 pub struct Lines {
     pub atn: bool,
     pub clk: bool,

@@ -2,7 +2,7 @@
 use answer::Fault;
 
 // A byte with its two ledger ticks: the sender lets go of DATA, the receiver takes it.
-#[derive(Drop)]
+#[derive(Clone, Copy)]
 pub struct Byte {
     pub value: u8,
     pub let_go: u32,
@@ -12,7 +12,7 @@ pub struct Byte {
 // `since` is the phase's first tick, and in the handover its offset 0, open or carried. `some_handed`: a byte was handed over.
 // `end_mark`: the byte has the end mark.
 // The order is for speed: the one-byte numbers come first, then `since` or `take`, so that each stands at the same byte in every phase.
-#[derive(Drop)]
+#[derive(Clone, Copy)]
 pub enum Phase {
     // A
     Start,

@@ -2,7 +2,7 @@
 use crate::lines::Lines;
 
 // `marked`: the recorder lost ticks before this one.
-#[derive(Drop)]
+#[derive(Clone, Copy)]
 pub struct Tick {
     pub marked: bool,
     pub lines: Lines,

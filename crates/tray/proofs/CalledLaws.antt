@@ -1,5 +1,6 @@
 -- What a call leaves of a tray: one seat changed at most, and none where it is refused. Assumes nothing.
-use Rattle.answer.specs.Basics.{ℕ, ◌<◌, List, length, set, ◌≡◌, eqb, leb, differs}
+use Rattle.std.specs.Prelude.{ℕ, ◌<◌, List, length, set, ◌≡◌, eqb, leb}
+use Rattle.answer.specs.Basics.{differs}
 use mathlib.Core.Path.{refl, ap, subst⁻¹, ◌∙◌}
 use native.Mathlib.Omega.{arith}
 use lib.{ListN.length-set, Seq.get_or-set_same, Seq.get_or-set_other, Seq.set-get_or}

@@ -1,5 +1,5 @@
 -- What a call makes of a seat, a case each, and how the code comes to it. Assumes nothing.
-use Rattle.answer.specs.Basics.{Bool, true, false, ◌≡◌}
+use Rattle.std.specs.Prelude.{Bool, true, false, ◌≡◌}
 use mathlib.Core.Path.{refl, sym, ap, ◌∙◌}
 use native.Mathlib.Omega.{arith}
 use Rattle.answer.specs.{Types.Refusal, Types.VacantSeat, Types.SeatInUse, Numbers.refusal_number}

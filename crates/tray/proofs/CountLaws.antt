@@ -1,5 +1,5 @@
 -- How the counts of a tray go on by one seat, for a loop over its places, and how large they get. Assumes nothing.
-use Rattle.answer.specs.Basics.{ℕ, zero, suc, ◌+◌, ◌^◌, ◌≤◌, ◌<◌, List, [], ◌∷◌, length, take, get_or, ◌≡◌}
+use Rattle.std.specs.Prelude.{ℕ, zero, suc, ◌+◌, ◌^◌, ◌≤◌, ◌<◌, List, [], ◌∷◌, length, take, get_or, ◌≡◌}
 use mathlib.Core.Path.{refl, ap, ◌∙◌}
 use native.Mathlib.{Numerals.add-one, Omega.arith}
 use lib.{ListN.length-take, Seq.take-length}

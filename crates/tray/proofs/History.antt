@@ -1,6 +1,6 @@
 -- A tray that only its calls change: how many seats are in use, and what a sealed one has behind it. Assumes nothing.
-use Rattle.answer.specs.Basics.{ℕ, zero, suc, ◌+◌, ◌<◌, Bool, true, false, ◌&&◌, List, [], ◌∷◌, length, replicate, set, get_or, ◌≡◌, eqb}
-use Rattle.answer.specs.Basics.{if◌then◌else◌}
+use Rattle.std.specs.Prelude.{ℕ, zero, suc, ◌+◌, ◌<◌, Bool, true, false, ◌&&◌, List, [], ◌∷◌, length, replicate, set, get_or, ◌≡◌, eqb}
+use Rattle.std.specs.Prelude.{if◌then◌else◌}
 use mathlib.Core.Bool.{false≢true, and-false}
 use mathlib.Core.Path.{refl, sym, ap, ap₂, subst⁻¹, ◌∙◌}
 use native.Mathlib.Omega.{arith}

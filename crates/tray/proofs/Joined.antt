@@ -1,5 +1,5 @@
 -- A post of what the judge gives. Assumes nothing.
-use Rattle.answer.specs.Basics.{ℕ, Bool, true, false, List, length, ◌≡◌}
+use Rattle.std.specs.Prelude.{ℕ, Bool, true, false, List, length, ◌≡◌}
 use mathlib.Core.Path.{refl, sym, ap, ◌∙◌}
 use native.Mathlib.Omega.{arith}
 use Rattle.transfer.specs.{Types.Limits}

@@ -1,5 +1,5 @@
 -- A post leaves its seat as it says, and no answer but 20 ever passes one. Assumes nothing.
-use Rattle.answer.specs.Basics.{ℕ, false, List, ◌≡◌}
+use Rattle.std.specs.Prelude.{ℕ, false, List, ◌≡◌}
 use mathlib.Core.Path.{refl, sym, ap, ◌∙◌}
 use borrow.Author.Tests.{ne_eqb}
 use Rattle.answer.specs.{Types.Answer, Types.Complete}

@@ -1,5 +1,5 @@
 -- The test of a post passes exactly if what it stands for holds. Assumes nothing.
-use Rattle.answer.specs.Basics.{ℕ, true, ◌&&◌, List, [], ◌∷◌, length, take, ◌≡◌, ◌↔◌, eqb}
+use Rattle.std.specs.Prelude.{ℕ, true, ◌&&◌, List, [], ◌∷◌, length, take, ◌≡◌, ◌↔◌, eqb}
 use mathlib.Core.Bool.{false≢true, and-eq-true_iff}
 use mathlib.Core.Path.{refl, ap₂}
 use borrow.Author.Tests.{eqb-true, eq-eqb}

@@ -1,6 +1,7 @@
 -- Sealing by the counts of the seats, and what a tray has that is sealed. Assumes nothing.
-use Rattle.answer.specs.Basics.{ℕ, zero, suc, ◌+◌, Bool, true, false, not, ◌&&◌, ◌||◌, List, [], ◌∷◌, length, ◌≡◌, eqb, ltb, differs}
-use Rattle.answer.specs.Basics.{◌↔◌, if◌then◌else◌}
+use Rattle.std.specs.Prelude.{ℕ, zero, suc, ◌+◌, Bool, true, false, not, ◌&&◌, ◌||◌, List, [], ◌∷◌, length, ◌≡◌, eqb, ltb}
+use Rattle.answer.specs.Basics.{differs}
+use Rattle.std.specs.Prelude.{◌↔◌, if◌then◌else◌}
 use mathlib.Core.Bool.{false≢true, and-eq-true_iff, or-true}
 use mathlib.Core.Path.{refl, sym, ap, ap₂, ◌∙◌}
 use native.Mathlib.Omega.{arith}

@@ -1,5 +1,5 @@
 -- What a choice by a test gives, and the rules that a proof searches with where a definition goes by tests. Assumes nothing.
-use Rattle.answer.specs.Basics.{Bool, true, false, ◌≡◌, if◌then◌else◌}
+use Rattle.std.specs.Prelude.{Bool, true, false, ◌≡◌, if◌then◌else◌}
 use mathlib.Core.Path.{refl}
 use borrow.Author.Tests.{eq-eqb, ne_eqb, le-leb, lt-leb}
 

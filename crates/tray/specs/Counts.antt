@@ -1,5 +1,5 @@
 -- How many seats are in each state.
-use Rattle.answer.specs.Basics.{◌+◌, ◌^◌, ◌<◌, List, [], ◌∷◌}
+use Rattle.std.specs.Prelude.{◌+◌, ◌^◌, ◌<◌, List, [], ◌∷◌}
 use Rattle.tray.specs.Types.{SeatState, Vacant, Unjudged, Passed, Failed, Seat, Counts}
 
 abbrev pub none : Counts

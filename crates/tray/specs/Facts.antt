@@ -1,5 +1,5 @@
 -- What holds of every tray, a line each.
-use Rattle.answer.specs.Basics.{ℕ, ◌+◌, Bool, true, List, length, ◌≡◌, ◌↔◌}
+use Rattle.std.specs.Prelude.{ℕ, ◌+◌, Bool, true, List, length, ◌≡◌, ◌↔◌}
 use Rattle.answer.specs.{Types.Answer, Types.Refusal, Types.Verdict, Types.Complete, Numbers.refusal_number, Numbers.verdict_number}
 use Rattle.tray.specs.Types.{Call, Post, Passed, Failed, Seat}
 use Rattle.tray.specs.{Seats.in_use, Seats.posted, Passing.passing, Passing.PassingPost, Tray.seats, Tray.seat_at, Tray.called}

@@ -1,5 +1,5 @@
 -- A tray that only its calls change, from a vacant one on: what is asked of it, and what is accepted.
-use Rattle.answer.specs.Basics.{ℕ, suc, ◌+◌, Bool, true, false, ◌&&◌, List, [], ◌∷◌, replicate, eqb, ◌≡◌, if◌then◌else◌}
+use Rattle.std.specs.Prelude.{ℕ, suc, ◌+◌, Bool, true, false, ◌&&◌, List, [], ◌∷◌, replicate, eqb, ◌≡◌, if◌then◌else◌}
 use Rattle.answer.specs.Types.{Answer}
 use Rattle.tray.specs.Types.{Call, Load, Remove, Post, Seat, Counts}
 use Rattle.tray.specs.{Passing.PassingPost, Passing.passing, Tray.seats, Tray.vacant_seat, Tray.Called, Tray.called, Counts.counts_of}

@@ -1,5 +1,5 @@
 -- The tray joined to the judge: what a post of what the judge gave and left comes to.
-use Rattle.answer.specs.Basics.{ℕ, List, [], ◌≡◌, ◌↔◌}
+use Rattle.std.specs.Prelude.{ℕ, List, [], ◌≡◌, ◌↔◌}
 use Rattle.transfer.specs.{Types.Limits, Demand3.Consistent, Demand3.Explained}
 use Rattle.judge.specs.{Judged.Judged, Judged.judged, Judged.line_list, Demand3.CompleteWith}
 use Rattle.recording.specs.Ticks.{NoStepMarked}

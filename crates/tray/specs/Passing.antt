@@ -1,5 +1,5 @@
 -- When a post passes.
-use Rattle.answer.specs.Basics.{ℕ, Bool, true, false, ◌&&◌, List, [], ◌∷◌, length, eqb, ◌≡◌}
+use Rattle.std.specs.Prelude.{ℕ, Bool, true, false, ◌&&◌, List, [], ◌∷◌, length, eqb, ◌≡◌}
 use Rattle.answer.specs.{Types.Answer, Answers.first}
 
 -- "The buffer begins with them": a buffer that is shorter does not.

@@ -1,5 +1,5 @@
 -- Calls, posts and sealings written out: every number, every limit at one below, at it and above, and which refusal comes first.
-use Rattle.answer.specs.Basics.{ℕ, true, false, List, [], ◌∷◌, ◌++◌, replicate, ◌≡◌}
+use Rattle.std.specs.Prelude.{ℕ, true, false, List, [], ◌∷◌, ◌++◌, replicate, ◌≡◌}
 use Rattle.answer.specs.Types.{Answer}
 use Rattle.tray.specs.Types.{SeatState, Vacant, Unjudged, Passed, Failed, Seat, Load, Remove, Post}
 use Rattle.tray.specs.{Passing.passing, Tray.leaves, Tray.called, Sealing.sealing}

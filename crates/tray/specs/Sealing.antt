@@ -1,5 +1,6 @@
 -- Sealing a tray.
-use Rattle.answer.specs.Basics.{ℕ, Bool, true, false, not, ◌&&◌, ◌||◌, List, [], ◌∷◌, length, eqb, differs, if◌then◌else◌}
+use Rattle.std.specs.Prelude.{ℕ, Bool, true, false, not, ◌&&◌, ◌||◌, List, [], ◌∷◌, length, eqb, if◌then◌else◌}
+use Rattle.answer.specs.Basics.{differs}
 use Rattle.answer.specs.{Types.NotFortySeats, Numbers.refusal_number}
 use Rattle.tray.specs.{Types.Seat, Types.Counts, Seats.in_use, Tray.seats}
 use Rattle.tray.specs.Types.{SeatState, Vacant, Unjudged, Passed, Failed}

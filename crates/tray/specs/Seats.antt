@@ -1,5 +1,5 @@
 -- The rule of one seat.
-use Rattle.answer.specs.Basics.{Bool, true, false}
+use Rattle.std.specs.Prelude.{Bool, true, false}
 use Rattle.answer.specs.{Types.Refusal, Types.VacantSeat, Types.SeatInUse, Numbers.refusal_number}
 use Rattle.tray.specs.Types.{SeatState, Vacant, Unjudged, Passed, Failed, Seat, Call, Load, Remove, Post, Changed}
 

@@ -1,5 +1,6 @@
 -- The calls that change a tray, over the whole list.
-use Rattle.answer.specs.Basics.{ℕ, List, length, set, get_or, eqb, leb, differs, if◌then◌else◌}
+use Rattle.std.specs.Prelude.{ℕ, List, length, set, get_or, eqb, leb, if◌then◌else◌}
+use Rattle.answer.specs.Basics.{differs}
 use Rattle.answer.specs.{Types.NoSuchSeat, Types.NotFortySeats, Numbers.refusal_number}
 use Rattle.tray.specs.{Types.Vacant, Types.Seat, Types.Call, Types.Changed, Seats.changed}
 

@@ -1,5 +1,5 @@
 // How many seats of a tray are in each state.
-ghost use Rattle.answer.specs.Basics.{◌≡◌};
+ghost use Rattle.std.specs.Prelude.{◌≡◌};
 ghost use Rattle.tray.specs.Counts.{with_seat, counts_of, Few};
 
 use crate::seat::{Seat, SeatState};

@@ -1,5 +1,7 @@
 // A tray of forty seats, for the gate: drives are loaded into seats, judged and removed, and a tray is sealed when all its drives have
 // passed.
+#![tactic(auto)]
+
 mod counts;
 mod passing;
 mod sealing;

@@ -1,5 +1,5 @@
 // Whether a post passes a seat.
-ghost use Rattle.answer.specs.Basics.{◌≡◌};
+ghost use Rattle.std.specs.Prelude.{◌≡◌};
 ghost use Rattle.tray.specs.Passing.{passing, begins_with};
 
 use answer::{Answer, Verdict};

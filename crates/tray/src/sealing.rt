@@ -1,5 +1,5 @@
 // Sealing a tray: it only looks.
-ghost use Rattle.answer.specs.Basics.{◌≡◌};
+ghost use Rattle.std.specs.Prelude.{◌≡◌};
 ghost use Rattle.tray.specs.Sealing.{sealing, sealing_by};
 
 use crate::counts::{Counts, count};

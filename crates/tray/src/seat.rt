@@ -1,5 +1,5 @@
 // One seat of a tray, and the rule of what a call makes of it.
-ghost use Rattle.answer.specs.Basics.{◌≡◌};
+ghost use Rattle.std.specs.Prelude.{◌≡◌};
 ghost use Rattle.tray.specs.Seats.{in_use, becomes, stays, posted, changed};
 
 use answer::Refusal;

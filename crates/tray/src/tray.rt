@@ -1,5 +1,5 @@
 // The calls that change a lent tray in place. Each answers 0 where it is accepted; otherwise a refusal, and then nothing has changed.
-ghost use Rattle.answer.specs.Basics.{◌≡◌};
+ghost use Rattle.std.specs.Prelude.{◌≡◌};
 ghost use Rattle.tray.specs.{Types.Load, Types.Remove, Types.Post, Passing.passing, Tray.leaves, Tray.called, Tray.outside};
 
 use crate::passing::passes;

@@ -1,5 +1,5 @@
 -- A list that is filled one place after another. Assumes nothing.
-use Rattle.answer.specs.Basics.{ℕ, ◌+◌, ◌≤◌, ◌<◌, List, length, set, get_or, ◌≡◌}
+use Rattle.std.specs.Prelude.{ℕ, ◌+◌, ◌≤◌, ◌<◌, List, length, set, get_or, ◌≡◌}
 use native.Mathlib.Omega.{arith}
 use mathlib.Core.Path.{sym, ◌∙◌}
 use borrow.Author.Count.{below_more}

@@ -1,5 +1,5 @@
 -- More bytes than the judge's buffer has places are expected in vain. Assumes nothing.
-use Rattle.answer.specs.Basics.{ℕ, ◌<◌, Bool, true, false, List, length, ◌≡◌}
+use Rattle.std.specs.Prelude.{ℕ, ◌<◌, Bool, true, false, List, length, ◌≡◌}
 use native.Mathlib.Omega.{arith}
 use mathlib.Core.Path.{refl, ap}
 use lib.{ListN.length-take, Seq.length-take-le}

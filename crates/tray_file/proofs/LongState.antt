@@ -1,5 +1,5 @@
 -- A file that is longer than a room with more places than a state file has bytes is read by its beginning. Assumes nothing.
-use Rattle.answer.specs.Basics.{ℕ, suc, ◌≤◌, ◌<◌, List, length, take, ◌≡◌}
+use Rattle.std.specs.Prelude.{ℕ, suc, ◌≤◌, ◌<◌, List, length, take, ◌≡◌}
 use native.Mathlib.Omega.{arith}
 use mathlib.Core.Path.{sym, ap, ◌∙◌}
 use lib.{ListN.length-take, Seq.length-take-le, Seq.take-take}

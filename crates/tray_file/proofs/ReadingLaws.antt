@@ -1,5 +1,5 @@
 -- Why the seats that are told by one byte of each line, and the place up to which their text is the file, read the file. Assumes nothing.
-use Rattle.answer.specs.Basics.{ℕ, suc, ◌+◌, ◌-◌, ◌*◌, ◌/◌, ◌%◌, ◌≤◌, ◌<◌, List, length, take, get_or, ◌≡◌}
+use Rattle.std.specs.Prelude.{ℕ, suc, ◌+◌, ◌-◌, ◌*◌, ◌/◌, ◌%◌, ◌≤◌, ◌<◌, List, length, take, get_or, ◌≡◌}
 use native.Mathlib.Omega.{arith}
 use mathlib.Core.Path.{refl, ap, sym, ◌∙◌}
 use lib.{ListN.length-take, Seq.length-take-le, Seq.get_or-take, Seq.ext_get_or}

@@ -1,5 +1,5 @@
 -- Files that are longer than the room that the program reads them into: what it says of the beginning holds of the whole file.
-use Rattle.answer.specs.Basics.{ℕ, ◌≤◌, ◌<◌, false, List, length, ◌≡◌}
+use Rattle.std.specs.Prelude.{ℕ, ◌≤◌, ◌<◌, false, List, length, ◌≡◌}
 use Rattle.answer.specs.{Types.Answer, Answers.first}
 use Rattle.tray.specs.Passing.{passing}
 use Rattle.tray_file.specs.{State.text_length, Reading.ReadAs, declared.reading.Read.Read}

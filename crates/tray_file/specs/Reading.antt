@@ -1,5 +1,5 @@
 -- What is read from a file that should be a tray's state file.
-use Rattle.answer.specs.Basics.{ℕ, zero, suc, ◌+◌, ◌*◌, List, length, ◌≡◌}
+use Rattle.std.specs.Prelude.{ℕ, zero, suc, ◌+◌, ◌*◌, List, length, ◌≡◌}
 use Rattle.answer.specs.Answers.{first}
 use Rattle.tray.specs.{Types.Seat, Tray.seats as forty}
 use Rattle.tray_file.specs.{State.heading_length, State.line_length, State.state_text, declared.reading.Read.Read}

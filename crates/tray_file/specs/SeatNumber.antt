@@ -1,6 +1,6 @@
 -- A seat's number as it stands in an argument.
 use Prim.Native.Char.{code}
-use Rattle.answer.specs.Basics.{ℕ, ◌+◌, ◌-◌, ◌*◌, Bool, true, false, List, [], ◌∷◌, ltb, if◌then◌else◌}
+use Rattle.std.specs.Prelude.{ℕ, ◌+◌, ◌-◌, ◌*◌, Bool, true, false, List, [], ◌∷◌, ltb, if◌then◌else◌}
 use Rattle.tray.specs.Tray.{seats}
 
 abbrev pub is_digit : (byte : ℕ) → Bool

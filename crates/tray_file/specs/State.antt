@@ -1,6 +1,6 @@
 -- The text of a tray's state file: a heading, and a line for each seat in order.
 use Prim.Native.String.{String}
-use Rattle.answer.specs.Basics.{ℕ, suc, ◌/◌, ◌%◌, List, [], ◌∷◌, ◌++◌}
+use Rattle.std.specs.Prelude.{ℕ, suc, ◌/◌, ◌%◌, List, [], ◌∷◌, ◌++◌}
 use Rattle.answer.specs.Text.{ascii, space, newline, digit}
 use Rattle.tray.specs.Types.{SeatState, Vacant, Unjudged, Passed, Failed, Seat}
 

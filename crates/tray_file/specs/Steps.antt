@@ -1,6 +1,6 @@
 -- How a state file is read: what the functions promise one another. What the reading promises is in specs/Reading.antt.
 use Prim.Native.Char.{code}
-use Rattle.answer.specs.Basics.{ℕ, ◌+◌, ◌-◌, ◌*◌, ◌/◌, ◌≤◌, ◌<◌, List, length, get_or, eqb, ltb, ◌≡◌, if◌then◌else◌}
+use Rattle.std.specs.Prelude.{ℕ, ◌+◌, ◌-◌, ◌*◌, ◌/◌, ◌≤◌, ◌<◌, List, length, get_or, eqb, ltb, ◌≡◌, if◌then◌else◌}
 use Rattle.tray.specs.Types.{SeatState, Vacant, Unjudged, Passed, Failed, Seat}
 use Rattle.tray.specs.Tray.{seats as forty, seat_at}
 use Rattle.tray_file.specs.State.{heading_length, line_length, text_length}

@@ -1,5 +1,5 @@
 // A tray by value, lent to the crate `tray` for one call, and handed back.
-ghost use Rattle.answer.specs.Basics.{◌≡◌};
+ghost use Rattle.std.specs.Prelude.{◌≡◌};
 ghost use Rattle.tray.specs.{Types.Load, Types.Remove, Types.Post, Passing.passing, Tray.leaves, Tray.called, Counts.counts_of};
 ghost use Rattle.tray.specs.Sealing.{sealing};
 

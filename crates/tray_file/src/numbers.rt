@@ -1,5 +1,5 @@
 // A seat's number as it stands in an argument.
-ghost use Rattle.answer.specs.Basics.{◌+◌, ◌-◌, ◌*◌, ◌≤◌, ◌≡◌};
+ghost use Rattle.std.specs.Prelude.{◌+◌, ◌-◌, ◌*◌, ◌≤◌, ◌≡◌};
 ghost use Rattle.tray_file.specs.SeatNumber.{is_digit, is_number, number_of, or_forty};
 
 use tray::SEATS;

@@ -1,5 +1,5 @@
 // A file read as a tray's state file.
-ghost use Rattle.answer.specs.Basics.{◌<◌, get_or, ◌≡◌};
+ghost use Rattle.std.specs.Prelude.{◌<◌, get_or, ◌≡◌};
 ghost use Rattle.tray_file.specs.{Reading.ReadAs, Steps.telling_place, Steps.state_told_by, Steps.seat_told_by, Steps.SeatsTold};
 ghost use Rattle.tray_file.specs.{Steps.SameUntil, Steps.line_of, Steps.wrong_line};
 

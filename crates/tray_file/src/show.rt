@@ -3,7 +3,7 @@
 //     +-------------+-------------+..
 //     | 00          | 01 unjudged |..
 //     +-------------+-------------+..
-ghost use Rattle.answer.specs.Basics.{◌<◌};
+ghost use Rattle.std.specs.Prelude.{◌<◌};
 
 use crate::lines::print;
 use crate::state::{LINE_LENGTH, seat_line};

@@ -1,5 +1,5 @@
 // The text of a tray's state file: a heading, and a line for each seat. Every line's place and length are fixed.
-ghost use Rattle.answer.specs.Basics.{◌<◌, get_or, ◌≡◌};
+ghost use Rattle.std.specs.Prelude.{◌<◌, get_or, ◌≡◌};
 ghost use Rattle.answer.specs.Text.{ascii, digit};
 ghost use Rattle.tray_file.specs.State.{state_word, seat_line, text_length, state_text};
 

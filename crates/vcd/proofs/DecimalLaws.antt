@@ -1,5 +1,5 @@
 -- A number in decimal, digit by digit. Assumes nothing.
-use Rattle.answer.specs.Basics.{ℕ, zero, suc, ◌/◌, ◌%◌, ◌^◌, ◌≤◌, ◌<◌, Bool, true, false, List, [], ◌∷◌, ◌++◌, ◌≡◌, ltb, if◌then◌else◌}
+use Rattle.std.specs.Prelude.{ℕ, zero, suc, ◌/◌, ◌%◌, ◌^◌, ◌≤◌, ◌<◌, Bool, true, false, List, [], ◌∷◌, ◌++◌, ◌≡◌, ltb, if◌then◌else◌}
 use mathlib.Core.Path.{refl, ap}
 use native.Mathlib.{Nat.pow-suc, Omega.arith}
 use borrow.Author.Tests.{lt-ltb, le-ltb}

@@ -1,5 +1,5 @@
 -- What the entry gives, case by case. Assumes nothing.
-use Rattle.answer.specs.Basics.{ℕ, ◌<◌, List, length, drop, ◌≡◌}
+use Rattle.std.specs.Prelude.{ℕ, ◌<◌, List, length, drop, ◌≡◌}
 use mathlib.Core.Path.{sym, ap, ap₂, ◌∙◌}
 use native.Mathlib.Omega.{arith}
 use lib.ListN.{length-take, length-drop}

@@ -1,6 +1,7 @@
 -- How long a dump can be. Assumes nothing.
-use Rattle.answer.specs.Basics.{ℕ, zero, suc, ◌+◌, ◌*◌, ◌/◌, ◌≤◌, Bool, true, false, List, [], ◌∷◌, ◌++◌, length, eqb, ltb}
-use Rattle.answer.specs.Basics.{if◌then◌else◌, first_then}
+use Rattle.std.specs.Prelude.{ℕ, zero, suc, ◌+◌, ◌*◌, ◌/◌, ◌≤◌, Bool, true, false, List, [], ◌∷◌, ◌++◌, length, eqb, ltb}
+use Rattle.std.specs.Prelude.{if◌then◌else◌}
+use Rattle.answer.specs.Basics.{first_then}
 use native.Mathlib.Omega.{arith}
 use lib.ListN.{length-append}
 use Rattle.recording.specs.{Types.Step, Ticks.Tick, Ticks.ticks, Ticks.total_ticks}

@@ -1,5 +1,5 @@
 -- The pieces that a caller asks for one after another are the dump. Assumes nothing.
-use Rattle.answer.specs.Basics.{ℕ, zero, suc, List, [], ◌∷◌, ◌++◌, length, take, drop, ◌≡◌}
+use Rattle.std.specs.Prelude.{ℕ, zero, suc, List, [], ◌∷◌, ◌++◌, length, take, drop, ◌≡◌}
 use mathlib.Core.Path.{refl, sym, ap, ap₂, subst⁻¹, ◌∙◌}
 use native.Mathlib.Omega.{arith}
 use lib.{ListN.length-take, ListN.length-drop, Seq.drop-drop, Seq.take-append_seam}

@@ -1,5 +1,5 @@
 -- The text of a recording's ticks, a step at a time, for a loop at step i of n. Assumes nothing.
-use Rattle.answer.specs.Basics.{ℕ, ◌+◌, ◌-◌, ◌≤◌, ◌<◌, List, [], ◌++◌, ◌≡◌}
+use Rattle.std.specs.Prelude.{ℕ, ◌+◌, ◌-◌, ◌≤◌, ◌<◌, List, [], ◌++◌, ◌≡◌}
 use mathlib.Core.Path.{sym, ap, ◌∙◌}
 use native.Mathlib.Nat.{sub-zero}
 use Rattle.recording.specs.{Types.Header, Types.Step, GoodForm.GoodForm, GoodForm.GoodStep, Layout.header_at, Layout.step_at}

@@ -1,5 +1,6 @@
 -- The text of ticks that are the same from the second on, as those of a step are. Assumes nothing.
-use Rattle.answer.specs.Basics.{ℕ, zero, suc, ◌+◌, ◌≤◌, List, [], ◌++◌, replicate, ◌≡◌, ltb, if◌then◌else◌, first_then}
+use Rattle.std.specs.Prelude.{ℕ, zero, suc, ◌+◌, ◌≤◌, List, [], ◌++◌, replicate, ◌≡◌, ltb, if◌then◌else◌}
+use Rattle.answer.specs.Basics.{first_then}
 use mathlib.Core.Path.{refl}
 use mathlib.Core.List.{append_assoc, append-nil}
 use native.Mathlib.{Nat.add-zero, Omega.arith}

@@ -1,5 +1,5 @@
 -- A text that is put down through a window leaves the piece of it that lies there. Assumes nothing.
-use Rattle.answer.specs.Basics.{ℕ, zero, suc, ◌+◌, ◌-◌, ◌≤◌, List, [], ◌∷◌, length, take, drop, set, ◌≡◌}
+use Rattle.std.specs.Prelude.{ℕ, zero, suc, ◌+◌, ◌-◌, ◌≤◌, List, [], ◌∷◌, length, take, drop, set, ◌≡◌}
 use mathlib.Core.Path.{ap, ◌∙◌}
 use native.Mathlib.{Nat.add-zero, Nat.zero-add, Nat.sub-zero, Numerals.add-one, Omega.arith}
 use borrow.Author.Tests.{lt-ltb, le-ltb}

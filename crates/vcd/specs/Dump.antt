@@ -1,6 +1,6 @@
 -- The text of a Value Change Dump (IEEE 1364) of a recording's steps, by the ticks that they mean. One tick is 1 µs.
 use Prim.Native.Char.{code}
-use Rattle.answer.specs.Basics.{ℕ, ◌+◌, List, [], ◌∷◌, ◌++◌, eqb, if◌then◌else◌}
+use Rattle.std.specs.Prelude.{ℕ, ◌+◌, List, [], ◌∷◌, ◌++◌, eqb, if◌then◌else◌}
 use Rattle.recording.specs.{Types.Step, Ticks.Tick, Ticks.ticks, Ticks.total_ticks}
 use Rattle.answer.specs.Text.{newline}
 use Rattle.vcd.specs.{Text.in_lines, Text.decimal, Wires.shown_in, Wires.value_text, Wires.change_text, Wires.each_wire}

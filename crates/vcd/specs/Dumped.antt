@@ -1,6 +1,6 @@
 -- What the entry answers and leaves, for any bytes, any offset and any destination; and that the pieces which a caller asks for one after
 -- another are the dump.
-use Rattle.answer.specs.Basics.{ℕ, ◌+◌, ◌≤◌, List, ◌++◌, length, drop, ◌≡◌, ◌↔◌}
+use Rattle.std.specs.Prelude.{ℕ, ◌+◌, ◌≤◌, List, ◌++◌, length, drop, ◌≡◌, ◌↔◌}
 use Rattle.answer.specs.Types.{Answer}
 use Rattle.answer.specs.Answers.{refused, accepted, ◌over◌, first}
 use Rattle.recording.specs.{Types.Form, Types.Good, Types.Refused, Form.form_of, GoodForm.GoodForm, Ticks.steps_of}

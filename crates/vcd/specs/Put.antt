@@ -1,6 +1,6 @@
 -- How a text is put down: byte after byte, into a window that begins some bytes on and is as long as the destination. The functions
 -- below the entry promise this to one another; what the entry promises is in specs/Dumped.antt.
-use Rattle.answer.specs.Basics.{ℕ, ◌+◌, ◌-◌, List, [], ◌∷◌, length, set, ◌≡◌, ltb, if◌then◌else◌}
+use Rattle.std.specs.Prelude.{ℕ, ◌+◌, ◌-◌, List, [], ◌∷◌, length, set, ◌≡◌, ltb, if◌then◌else◌}
 use Rattle.vcd.specs.declared.window.Window.{Window}
 
 -- A window, and the destination behind it.

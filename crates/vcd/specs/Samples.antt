@@ -1,5 +1,5 @@
 -- Recordings worked out by hand.
-use Rattle.answer.specs.Basics.{ℕ, List, [], ◌∷◌, ◌++◌, ◌≡◌}
+use Rattle.std.specs.Prelude.{ℕ, List, [], ◌∷◌, ◌++◌, ◌≡◌}
 use Rattle.recording.specs.{Types.Step, SampleSteps.◌∶◌, SampleSteps.lost}
 use Rattle.vcd.specs.{Dump.heading, Dump.dump, Text.in_lines}
 

@@ -1,7 +1,7 @@
 -- How the code makes the text: step by step, and not tick by tick. A step shows one thing in its first tick, which alone has its mark,
 -- and from its second on the lines alone; so it has changes at these two at most. The functions below the entry promise this to one
 -- another; the dump itself is in specs/Dump.antt.
-use Rattle.answer.specs.Basics.{ℕ, ◌+◌, List, ◌++◌, ltb, if◌then◌else◌}
+use Rattle.std.specs.Prelude.{ℕ, ◌+◌, List, ◌++◌, ltb, if◌then◌else◌}
 use Rattle.recording.specs.{Types.Step, Layout.is_marked, Ticks.tick}
 use Rattle.vcd.specs.{Dump.tick_text, Wires.shown_in}
 

@@ -1,5 +1,5 @@
 -- Lines and numbers as text.
-use Rattle.answer.specs.Basics.{ℕ, zero, suc, ◌/◌, ◌%◌, List, [], ◌∷◌, ◌++◌, ltb, if◌then◌else◌}
+use Rattle.std.specs.Prelude.{ℕ, zero, suc, ◌/◌, ◌%◌, List, [], ◌∷◌, ◌++◌, ltb, if◌then◌else◌}
 use Prim.Native.String.{String}
 use Rattle.answer.specs.Text.{ascii, newline, digit}
 

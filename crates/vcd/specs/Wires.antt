@@ -1,6 +1,6 @@
 -- The five wires of a dump: the four lines, and LOST, which shows where the recorder lost ticks.
 use Prim.Native.Char.{code}
-use Rattle.answer.specs.Basics.{ℕ, ◌+◌, ◌/◌, ◌%◌, List, [], ◌∷◌, ◌++◌, eqb, if◌then◌else◌}
+use Rattle.std.specs.Prelude.{ℕ, ◌+◌, ◌/◌, ◌%◌, List, [], ◌∷◌, ◌++◌, eqb, if◌then◌else◌}
 use Rattle.recording.specs.Ticks.{Tick}
 use Rattle.vcd.specs.declared.wires.Wire.{Wire}
 use Rattle.vcd.specs.declared.wires.Wire.TheVariants.{Atn, Clk, Data, Srq, Lost}

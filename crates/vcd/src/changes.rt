@@ -1,5 +1,5 @@
 // The changes, step by step.
-ghost use Rattle.answer.specs.Basics.{◌*◌, ◌≤◌};
+ghost use Rattle.std.specs.Prelude.{◌*◌, ◌≤◌};
 ghost use Rattle.recording.specs.{GoodForm.GoodForm, GoodForm.GoodStep, Layout.most_steps, Layout.longest_duration};
 ghost use Rattle.recording.specs.Ticks.{steps_from, ticks};
 ghost use Rattle.vcd.specs.{Put.held, Put.Puts, Steps.step_text};

@@ -1,5 +1,5 @@
 // The entry: a part of a recording's dump, put down in a lent destination.
-ghost use Rattle.answer.specs.Basics.{◌≡◌};
+ghost use Rattle.std.specs.Prelude.{◌≡◌};
 ghost use Rattle.recording.specs.{GoodForm.GoodForm, Ticks.steps_of};
 ghost use Rattle.vcd.specs.{Dump.dump, Dumped.leaves, Dumped.dumped, Put.held, Put.Puts};
 

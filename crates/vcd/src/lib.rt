@@ -1,4 +1,6 @@
 // A recording as a Value Change Dump (IEEE 1364), for waveform viewers.
+#![tactic(auto)]
+
 mod changes;
 mod entry;
 mod heading;

@@ -1,5 +1,5 @@
 // Numbers in decimal.
-ghost use Rattle.answer.specs.Basics.{◌<◌, ◌≡◌};
+ghost use Rattle.std.specs.Prelude.{◌<◌, ◌≡◌};
 ghost use Rattle.answer.specs.Text.{digit};
 ghost use Rattle.vcd.specs.{Text.decimal, Put.held, Put.Puts};
 

@@ -1,5 +1,5 @@
 // The window through which a text is put down. A text is made whole each time; the window takes what lies in it.
-ghost use Rattle.answer.specs.Basics.{[], ◌∷◌, ◌≡◌};
+ghost use Rattle.std.specs.Prelude.{[], ◌∷◌, ◌≡◌};
 ghost use Rattle.vcd.specs.Put.{held, window_at, Puts};
 
 #[derive(Drop)]

@@ -1,5 +1,5 @@
 // The five wires, and their values.
-ghost use Rattle.answer.specs.Basics.{◌≡◌};
+ghost use Rattle.std.specs.Prelude.{◌≡◌};
 ghost use Rattle.vcd.specs.Put.{held, Puts};
 ghost use Rattle.vcd.specs.Wires.{bit_of, identifier_of, high_bit, level_of, value_text, change_text, each_wire};
 

@@ -1,5 +1,5 @@
 -- A piece of a dump lies within its destination, and the offset after it is still a number of 32 bits. Assumes nothing.
-use Rattle.answer.specs.Basics.{ℕ, ◌+◌, ◌≤◌, ◌<◌, List, length, drop, ◌≡◌}
+use Rattle.std.specs.Prelude.{ℕ, ◌+◌, ◌≤◌, ◌<◌, List, length, drop, ◌≡◌}
 use mathlib.Core.Path.{refl, ap, ◌∙◌}
 use native.Mathlib.Omega.{arith}
 use lib.ListN.{length-take, length-drop}

@@ -1,5 +1,5 @@
 -- What the writer counts lies within the destination. Assumes nothing.
-use Rattle.answer.specs.Basics.{ℕ, ◌≤◌, Bool, true, false, List, length, ◌≡◌, ltb, if◌then◌else◌}
+use Rattle.std.specs.Prelude.{ℕ, ◌≤◌, Bool, true, false, List, length, ◌≡◌, ltb, if◌then◌else◌}
 use mathlib.Core.Path.{refl, ap, sym}
 use native.Mathlib.Omega.{arith}
 use borrow.Author.Tests.{ltb-false}

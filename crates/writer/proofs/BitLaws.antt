@@ -1,5 +1,5 @@
 -- The steps of a value's bits, two at a time, for a loop at bit k of eight. Assumes nothing.
-use Rattle.answer.specs.Basics.{ℕ, zero, suc, ◌+◌, ◌-◌, ◌*◌, ◌/◌, ◌%◌, ◌<◌, List, [], ◌∷◌, length, ◌≡◌}
+use Rattle.std.specs.Prelude.{ℕ, zero, suc, ◌+◌, ◌-◌, ◌*◌, ◌/◌, ◌%◌, ◌<◌, List, [], ◌∷◌, length, ◌≡◌}
 use mathlib.Core.Path.{refl, sym, ap, ◌∙◌}
 use native.Mathlib.Omega.{arith}
 use Rattle.writer.specs.{WrittenSteps.shows, WrittenSteps.bit_steps, Put.with_steps, Put.Put}
@@ -17,11 +17,11 @@ module _ (card : Card) where
       → Put d d₁ i j (shows 1 (v % 2) card.set_up ∷ []) → Put d₁ d₂ j m (shows 0 (v % 2) card.valid ∷ [])
       → with_steps d i (bit_steps card (8 - k) v) ≡ with_steps d₂ m (bit_steps card (8 - (k + 1)) (v / 2))
   unfolding bit_steps
-  bit_goes_on k v {d} {i = i} left set-up valid =
+  bit_goes_on k v {d} {i = i} left set_up valid =
       let rest = bit_steps card (8 - (k + 1)) (v / 2) in
       let one_less : 8 - k ≡ suc (8 - (k + 1)) = omega arith in
       ap (λ (n : ℕ). with_steps d i (bit_steps card n v)) one_less
-      ∙ goes_on (and_then set-up valid) rest
+      ∙ goes_on (and_then set_up valid) rest
 
   -- No bit is left.
   pub bits_put : (k v value : ℕ) (d d₁ : List ℕ) (i j : ℕ) → k ≡ 8 → j ≡ i + 2 * k

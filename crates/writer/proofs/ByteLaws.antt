@@ -1,5 +1,5 @@
 -- The pieces of a byte, and how many steps they are. Assumes nothing.
-use Rattle.answer.specs.Basics.{ℕ, ◌+◌, List, [], ◌++◌, length, ◌≡◌}
+use Rattle.std.specs.Prelude.{ℕ, ◌+◌, List, [], ◌++◌, length, ◌≡◌}
 use mathlib.Core.Path.{refl, ◌∙◌}
 use native.Mathlib.Omega.{arith}
 use lib.ListN.{length-append}

@@ -1,5 +1,5 @@
 -- Steps put down one after another are one list of steps. Assumes nothing.
-use Rattle.answer.specs.Basics.{ℕ, ◌+◌, List, [], ◌∷◌, ◌++◌, length, ◌≡◌}
+use Rattle.std.specs.Prelude.{ℕ, ◌+◌, List, [], ◌∷◌, ◌++◌, length, ◌≡◌}
 use mathlib.Core.{List.append-nil, Path.refl, Path.sym, Path.◌∙◌}
 use native.Mathlib.Omega.{arith}
 use lib.{ListN.length-append, Seq.sets}

@@ -1,5 +1,5 @@
 -- Demand 2: what the writer put down is read back. Assumes nothing.
-use Rattle.answer.specs.Basics.{ℕ, ◌≤◌, List, [], ◌∷◌, length}
+use Rattle.std.specs.Prelude.{ℕ, ◌≤◌, List, [], ◌∷◌, length}
 use mathlib.Core.Path.{refl, sym, ap, subst⁻¹, ◌∙◌}
 use native.Mathlib.Omega.{arith}
 use Rattle.answer.specs.{Answers.◌over◌, Numbers.verdict_number}

@@ -1,6 +1,6 @@
 -- Read-back over tick lists: a pair for the string gives the ticks that are put down, so that the judge finds them complete with it; and
 -- what the judge finds where no byte was given. Assumes nothing.
-use Rattle.answer.specs.Basics.{ℕ, List, [], ◌∷◌, ◌≡◌}
+use Rattle.std.specs.Prelude.{ℕ, List, [], ◌∷◌, ◌≡◌}
 use mathlib.Core.Path.{refl, ap, subst, ◌∙◌}
 use borrow.Author.Rules.{rules}
 use Rattle.recording.specs.{GoodForm.Bytes, Ticks.ticks}
@@ -45,7 +45,7 @@ module _ (first : ℕ) (others : List ℕ) (bytes : Bytes (first ∷ others)) wh
               gives_it =
                   ap (λ (entry : Entry). gives (attention_track entry plan) (sender_track plan) (receiver_track plan)) in_time.entry
                   ∙ gives_shows standard_limits (track plan)
-                  ∙ ap lines_in (gives_sent card in_time.set-up first others).same;
+                  ∙ ap lines_in (gives_sent card in_time.set_up first others).same;
             };
       }
 
@@ -53,7 +53,7 @@ module _ (first : ℕ) (others : List ℕ) (bytes : Bytes (first ∷ others)) wh
   in_time_unmarked : (L : Limits) (card : Card) → InTime L card → Unmarked (written_ticks card (first ∷ others))
   unfolding written_steps
   in_time_unmarked L card in_time =
-      subst Unmarked (gives_sent card in_time.set-up first others).same
+      subst Unmarked (gives_sent card in_time.set_up first others).same
       (shows_unmarked standard_limits (track (plan_of card first others)))
 
   -- So it is with document 01's card and times: they are in time.

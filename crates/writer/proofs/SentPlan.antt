@@ -1,7 +1,7 @@
 -- The plan of a sender and a receiver that a card and a string of one or more bytes mean, and that it sends the string.
 -- Assumes nothing.
-use Rattle.answer.specs.Basics.{ℕ, zero, suc, ◌+◌, ◌-◌, ◌*◌, ◌/◌, ◌%◌, ◌^◌, ◌<◌, Bool, true, false, List, [], ◌∷◌, replicate, ◌≡◌, eqb}
-use Rattle.answer.specs.Basics.{if◌then◌else◌}
+use Rattle.std.specs.Prelude.{ℕ, zero, suc, ◌+◌, ◌-◌, ◌*◌, ◌/◌, ◌%◌, ◌^◌, ◌<◌, Bool, true, false, List, [], ◌∷◌, replicate, ◌≡◌, eqb}
+use Rattle.std.specs.Prelude.{if◌then◌else◌}
 use native.Mathlib.{Omega.arith, Nat.pow-suc}
 use mathlib.Core.Path.{refl, ap, ap₂}
 use borrow.Author.Tests.{eqb-true, eqb-false}

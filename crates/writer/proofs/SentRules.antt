@@ -1,5 +1,5 @@
 -- The plan of a card whose durations are in time keeps the two parties' rules. Assumes nothing.
-use Rattle.answer.specs.Basics.{ℕ, zero, suc, ◌-◌, ◌/◌, ◌≤◌, ◌<◌, Bool, List, [], ◌∷◌, length, replicate, ◌≡◌}
+use Rattle.std.specs.Prelude.{ℕ, zero, suc, ◌-◌, ◌/◌, ◌≤◌, ◌<◌, Bool, List, [], ◌∷◌, length, replicate, ◌≡◌}
 use native.Mathlib.Omega.{arith}
 use mathlib.Core.Path.{refl, ap}
 use lib.ListN.{length-replicate}
@@ -17,12 +17,12 @@ pub record InTime (L : Limits) (card : Card) : Type 0 where
   pub ready : 1 ≤ card.ready_to_send
   pub gap : 1 ≤ card.gap
   pub gap_most : card.gap < L.end_mark
-  pub set-up : 1 ≤ card.set_up
-  pub set-up_most : card.set_up ≤ L.set_up_most
+  pub set_up : 1 ≤ card.set_up
+  pub set_up_most : card.set_up ≤ L.set_up_most
   pub valid_least : L.valid_least ≤ card.valid
   pub valid_most : card.valid ≤ L.valid_most
   pub take : 1 ≤ card.take
-  pub take-most : card.take ≤ L.take_latest
+  pub take_most : card.take ≤ L.take_latest
   pub end_gap_least : L.end_mark ≤ card.end_gap
   pub end_gap_most : card.end_gap ≤ L.end_mark_latest
   pub acknowledgement_least : L.acknowledge_least ≤ card.acknowledgement
@@ -40,7 +40,7 @@ module _ {L : Limits} {card : Card} (in_time : InTime L card) where
   bit_keeps : (b : Bool) → BitRule L (bit_of card b)
   bit_keeps b =
       record {
-        set-up = omega (arith, length-replicate (card.set_up - 1) b);
+        set_up = omega (arith, length-replicate (card.set_up - 1) b);
         valid_least = in_time.valid_least;
         valid_most = in_time.valid_most;
         steady = last_of_same b (card.set_up - 1);

@@ -1,6 +1,6 @@
 -- The bus shows of a card's plan what the steps put down show. Assumes nothing.
-use Rattle.answer.specs.Basics.{ℕ, zero, suc, ◌+◌, ◌-◌, ◌*◌, ◌/◌, ◌%◌, ◌≤◌, ◌<◌, Bool, true, false, List, [], ◌∷◌, ◌++◌, map, replicate}
-use Rattle.answer.specs.Basics.{◌≡◌, eqb, if◌then◌else◌}
+use Rattle.std.specs.Prelude.{ℕ, zero, suc, ◌+◌, ◌-◌, ◌*◌, ◌/◌, ◌%◌, ◌≤◌, ◌<◌, Bool, true, false, List, [], ◌∷◌, ◌++◌, map, replicate}
+use Rattle.std.specs.Prelude.{◌≡◌, eqb, if◌then◌else◌}
 use native.Mathlib.Omega.{arith}
 use mathlib.Core.List.{map-append, append-nil, append_assoc}
 use mathlib.Core.Path.{refl, sym, ap, ap₂, ◌∙◌}
@@ -52,15 +52,15 @@ bit_lines false (suc zero) h = refl
 bit_lines clk (suc (suc d)) h = absurd (omega arith)
 
 -- The ticks of a set-up are equal.
-set-up_shows : (b : Bool) (n : ℕ) → map sets (replicate n b) ≡ replicate n (sets b)
-set-up_shows b zero = refl
-set-up_shows b (suc n) = ap (λ w. sets b ∷ w) (set-up_shows b n)
+set_up_shows : (b : Bool) (n : ℕ) → map sets (replicate n b) ≡ replicate n (sets b)
+set_up_shows b zero = refl
+set_up_shows b (suc n) = ap (λ w. sets b ∷ w) (set_up_shows b n)
 
-set-up_ticks : (b : Bool) (n : ℕ) (js : List Pulls) → 1 ≤ n
+set_up_ticks : (b : Bool) (n : ℕ) (js : List Pulls) → 1 ≤ n
     → sets b ∷ (map sets (replicate (n - 1) b) ++ js) ≡ replicate n (sets b) ++ js
-set-up_ticks b n js h =
+set_up_ticks b n js h =
     let one_more : suc (n - 1) ≡ n = omega arith in
-    ap (λ w. sets b ∷ (w ++ js)) (set-up_shows b (n - 1)) ∙ ap (λ (k : ℕ). replicate k (sets b) ++ js) one_more
+    ap (λ w. sets b ∷ (w ++ js)) (set_up_shows b (n - 1)) ∙ ap (λ (k : ℕ). replicate k (sets b) ++ js) one_more
 
 module _ (card : Card) (some : 1 ≤ card.set_up) where
   gives_bits : (k value : ℕ) {js : List Pulls} {steps : List Step} → Gives js steps
@@ -68,7 +68,7 @@ module _ (card : Card) (some : 1 ≤ card.set_up) where
   unfolding bits_of bit_steps
   gives_bits zero value rest = rest
   gives_bits (suc k) value rest =
-      rw set-up_ticks
+      rw set_up_ticks
       (gives_step (sets (odd value)) (bit_lines true (value % 2) (omega arith))
       (gives_step (offers (odd value)) (bit_lines false (value % 2) (omega arith)) (gives_bits k (value / 2) rest)))
 

@@ -1,5 +1,5 @@
 -- The steps of a string, a byte at a time, for a loop at byte i. Assumes nothing.
-use Rattle.answer.specs.Basics.{ℕ, suc, ◌+◌, ◌*◌, ◌≤◌, ◌<◌, List, [], ◌∷◌, ◌++◌, length, drop, get_or, ◌≡◌}
+use Rattle.std.specs.Prelude.{ℕ, suc, ◌+◌, ◌*◌, ◌≤◌, ◌<◌, List, [], ◌∷◌, ◌++◌, length, drop, get_or, ◌≡◌}
 use mathlib.Core.Path.{refl, sym}
 use native.Mathlib.{Numerals.add-one, Omega.arith}
 use lib.{ListN.length-append, ListN.length-drop, ListN.drop_of_length-le, Seq.drop-cons}

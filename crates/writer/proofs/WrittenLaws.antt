@@ -1,5 +1,5 @@
 -- What the writer leaves: the header with the steps after it is the recording, and the tests decide. Assumes nothing.
-use Rattle.answer.specs.Basics.{ℕ, ◌+◌, ◌≤◌, ◌<◌, List, length, ◌≡◌}
+use Rattle.std.specs.Prelude.{ℕ, ◌+◌, ◌≤◌, ◌<◌, List, length, ◌≡◌}
 use mathlib.Core.Path.{sym, ap, subst⁻¹, ◌∙◌}
 use native.Mathlib.{Nat.zero-add, Omega.arith}
 use borrow.Author.Tests.{lt-ltb, le-ltb}

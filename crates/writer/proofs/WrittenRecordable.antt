@@ -1,5 +1,5 @@
 -- The steps put down are such that a recording can have them. Assumes nothing.
-use Rattle.answer.specs.Basics.{ℕ, zero, suc, ◌/◌, ◌≤◌, List, [], ◌∷◌, ◌++◌}
+use Rattle.std.specs.Prelude.{ℕ, zero, suc, ◌/◌, ◌≤◌, List, [], ◌∷◌, ◌++◌}
 use borrow.Author.Rules.{rules}
 use Rattle.recording.specs.{Types.Step, FileOf.Recordable, Layout.longest_duration}
 use Rattle.writer.specs.Card.{standard_card}
@@ -16,7 +16,7 @@ pub record CardFits (card : Card) : Type 0 where
   pub hold : Fits card.hold
   pub ready : Fits card.ready_to_send
   pub gap : Fits card.gap
-  pub set-up : Fits card.set_up
+  pub set_up : Fits card.set_up
   pub valid : Fits card.valid
   pub take : Fits card.take
   pub end_gap_fits : Fits card.end_gap

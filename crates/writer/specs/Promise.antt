@@ -1,5 +1,5 @@
 -- What an entry promises that writes a recording: of the answer and of the destination, whole, as the call leaves them.
-use Rattle.answer.specs.Basics.{ℕ, List, ◌≡◌}
+use Rattle.std.specs.Prelude.{ℕ, List, ◌≡◌}
 use Rattle.answer.specs.Answers.{first}
 use Rattle.transfer.specs.Types.{Limits}
 use Rattle.writer.specs.{ReadBack.ReadsBack, ReadBack.Writable, Written.Written, Written.written}

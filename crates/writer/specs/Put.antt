@@ -1,5 +1,5 @@
 -- The destination with steps put down in it.
-use Rattle.answer.specs.Basics.{ℕ, ◌+◌, List, length, ◌≡◌}
+use Rattle.std.specs.Prelude.{ℕ, ◌+◌, List, length, ◌≡◌}
 use Rattle.std.proofs.lemmas.List.Edits.{sets}
 use Rattle.recording.specs.{Types.Step, Layout.step_place, FileOf.steps_bytes}
 

@@ -1,5 +1,5 @@
 -- Demand 2: what the writer put down, the judge reads back. It is stated over what the judge gives, and so over document 01's phases.
-use Rattle.answer.specs.Basics.{ℕ, ◌≤◌, List, [], ◌∷◌, length, ◌≡◌}
+use Rattle.std.specs.Prelude.{ℕ, ◌≤◌, List, [], ◌∷◌, length, ◌≡◌}
 use Rattle.answer.specs.Answers.{◌over◌}
 use Rattle.recording.specs.GoodForm.{Bytes}
 use Rattle.transfer.specs.{Types.Limits, Limits.standard_limits}

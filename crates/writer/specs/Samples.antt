@@ -1,5 +1,5 @@
 -- What is put down, answered and left for some strings and destinations, written out.
-use Rattle.answer.specs.Basics.{ℕ, List, [], ◌∷◌, ◌++◌, map, replicate, ◌≡◌}
+use Rattle.std.specs.Prelude.{ℕ, List, [], ◌∷◌, ◌++◌, map, replicate, ◌≡◌}
 use Rattle.recording.specs.{Types.Step, FileOf.file_of, SampleSteps.◌∶◌, SampleSteps.zeros, SampleSteps.s1_file}
 use Rattle.writer.specs.Card.{standard_card}
 use Rattle.writer.specs.Written.{recording_of, Written, leaves, written}

@@ -1,5 +1,5 @@
 -- What the writer answers and leaves, for any bytes and any destination.
-use Rattle.answer.specs.Basics.{ℕ, ◌+◌, ◌*◌, List, length, replicate, ◌≡◌, ltb, if◌then◌else◌}
+use Rattle.std.specs.Prelude.{ℕ, ◌+◌, ◌*◌, List, length, replicate, ◌≡◌, ltb, if◌then◌else◌}
 use Rattle.answer.specs.{Types.Answer, Types.TooManyBytes, Types.ShortDestination, Answers.refused, Answers.accepted, Answers.◌over◌}
 use Rattle.recording.specs.{FileOf.file_of, Ticks.total_ticks}
 use Rattle.writer.specs.WrittenSteps.{written_steps}

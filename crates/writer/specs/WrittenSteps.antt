@@ -1,5 +1,5 @@
 -- Document 01, "What the writer puts down", sentence by sentence.
-use Rattle.answer.specs.Basics.{ℕ, zero, suc, ◌+◌, ◌*◌, ◌/◌, ◌%◌, List, [], ◌∷◌, ◌++◌}
+use Rattle.std.specs.Prelude.{ℕ, zero, suc, ◌+◌, ◌*◌, ◌/◌, ◌%◌, List, [], ◌∷◌, ◌++◌}
 use Rattle.recording.specs.Types.{Step}
 use Rattle.writer.specs.declared.card.Card.{Card}
 

@@ -1,5 +1,5 @@
 // The durations that the writer puts down.
-ghost use Rattle.answer.specs.Basics.{◌≡◌};
+ghost use Rattle.std.specs.Prelude.{◌≡◌};
 ghost use Rattle.writer.specs.Card.{standard_card};
 
 // Each duration in ticks, named once. (c,d) is CLK=c, DATA=d.

@@ -1,5 +1,5 @@
 // The entry: a recording of given bytes, put down in a lent destination.
-ghost use Rattle.answer.specs.Basics.{◌≤◌, length, ◌≡◌};
+ghost use Rattle.std.specs.Prelude.{◌≤◌, length, ◌≡◌};
 ghost use Rattle.answer.specs.Answers.{◌over◌};
 ghost use Rattle.transfer.specs.Limits.{standard_limits};
 ghost use Rattle.writer.specs.{Card.standard_card, Promise.WritePromise};

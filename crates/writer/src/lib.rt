@@ -1,4 +1,6 @@
 // Sample recordings, written from bytes.
+#![tactic(auto)]
+
 mod card;
 mod entry;
 mod steps;

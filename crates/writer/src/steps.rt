@@ -1,5 +1,5 @@
 // The pieces of a written recording. Each function puts its steps down from step `first` on, and hands back the step after them.
-ghost use Rattle.answer.specs.Basics.{◌+◌, ◌≤◌, [], ◌∷◌, length};
+ghost use Rattle.std.specs.Prelude.{◌+◌, ◌≤◌, [], ◌∷◌, length};
 ghost use Rattle.recording.specs.Layout.{step_place};
 ghost use Rattle.writer.specs.Put.{Put};
 ghost use Rattle.writer.specs.WrittenSteps.{shows, bit_steps, byte_steps, plain_gap, sent_steps, closing, empty_steps, opening};

@@ -1,5 +1,5 @@
 // The steps of a whole string, one byte after another.
-ghost use Rattle.answer.specs.Basics.{◌≤◌, length, ◌≡◌};
+ghost use Rattle.std.specs.Prelude.{◌≤◌, length, ◌≡◌};
 ghost use Rattle.recording.specs.Layout.{file_length};
 ghost use Rattle.writer.specs.{WrittenSteps.written_steps, Written.most_bytes, Written.written_step_count, Put.with_steps};
 

@@ -1,5 +1,5 @@
 // How many ticks a written recording has.
-ghost use Rattle.answer.specs.Basics.{◌+◌, ◌*◌, ◌≤◌, ◌≡◌};
+ghost use Rattle.std.specs.Prelude.{◌+◌, ◌*◌, ◌≤◌, ◌≡◌};
 ghost use Rattle.writer.specs.Written.{most_bytes, written_ticks};
 
 use crate::card::Card;

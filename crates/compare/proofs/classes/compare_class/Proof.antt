@@ -1,5 +1,5 @@
 -- `classes::compare_class` is safe and ends. The loop keeps the length; the cases left are the measure. Assumes nothing.
-use Rattle.answer.specs.Basics.{◌-◌, length, ◌≡◌}
+use Rattle.std.specs.Prelude.{◌-◌, length, ◌≡◌}
 use Rattle.std.proofs.Common.{rules}
 use Rattle.compare.proofs.classes.compare_class.Statement.{statement}
 use Rattle.compare.proofs.classes.compare_class.Tie as tie

@@ -1,5 +1,5 @@
 -- `classes::compare_classes` is safe and ends. The loop keeps the length; the classes left are the measure. Assumes nothing.
-use Rattle.answer.specs.Basics.{◌-◌, length, ◌≡◌}
+use Rattle.std.specs.Prelude.{◌-◌, length, ◌≡◌}
 use Rattle.std.proofs.Common.{rules}
 use Rattle.compare.proofs.classes.compare_classes.Statement.{statement}
 use Rattle.compare.proofs.classes.compare_classes.Tie as tie

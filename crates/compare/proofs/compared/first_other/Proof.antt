@@ -1,5 +1,5 @@
 -- `compared::first_other` is safe and ends. The places left are the measure. Assumes nothing.
-use Rattle.answer.specs.Basics.{◌-◌}
+use Rattle.std.specs.Prelude.{◌-◌}
 use Rattle.std.proofs.Common.{rules}
 use Rattle.compare.proofs.compared.first_other.Statement.{statement}
 use Rattle.compare.proofs.compared.first_other.Tie as tie

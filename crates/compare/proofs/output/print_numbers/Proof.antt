@@ -1,5 +1,5 @@
 -- `output::print_numbers` is safe and ends. The numbers left are the measure. Assumes nothing.
-use Rattle.answer.specs.Basics.{◌-◌, length}
+use Rattle.std.specs.Prelude.{◌-◌, length}
 use Rattle.std.proofs.Common.{rules}
 use Rattle.compare.proofs.output.print_numbers.Statement.{statement}
 use Rattle.compare.proofs.output.print_numbers.Tie as tie

@@ -1,5 +1,5 @@
 -- `output::print_words` is safe and ends. The bytes left are the measure. Assumes nothing.
-use Rattle.answer.specs.Basics.{◌-◌, length}
+use Rattle.std.specs.Prelude.{◌-◌, length}
 use Rattle.std.proofs.Common.{rules}
 use Rattle.compare.proofs.output.print_words.Statement.{statement}
 use Rattle.compare.proofs.output.print_words.Tie as tie

@@ -1,7 +1,7 @@
 -- `files::read_input` meets its contract. Assumes nothing.
 use borrow.Author.Rules.{rules}
 use native.Mathlib.Omega.{arith}
-use Rattle.answer.specs.Basics.{◌-◌, ◌≤◌, length, ◌≡◌}
+use Rattle.std.specs.Prelude.{◌-◌, ◌≤◌, length, ◌≡◌}
 use Rattle.io.proofs.Counting.{prefix_len_of_le}
 use Rattle.files.proofs.input.read_input.Statement.{statement}
 use Rattle.files.proofs.input.read_input.Tie as tie

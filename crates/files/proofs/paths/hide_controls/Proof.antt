@@ -1,6 +1,6 @@
 -- `files::hide_controls` meets its contract. Assumes nothing.
 use borrow.Author.Rules.{rules}
-use Rattle.answer.specs.Basics.{◌-◌, length}
+use Rattle.std.specs.Prelude.{◌-◌, length}
 use Rattle.files.specs.Printable.{printable}
 use Rattle.files.proofs.paths.hide_controls.Statement.{statement}
 use Rattle.files.proofs.MapLaws.{Mapped, mapped_first, mapped_next, mapped_all}

@@ -1,5 +1,5 @@
 -- `read` meets its contract. Both loops keep that the reading, from where it stands, comes to the whole. Assumes nothing.
-use Rattle.answer.specs.Basics.{◌+◌, ◌-◌, ◌*◌, ◌≤◌, ◌<◌, ◌++◌}
+use Rattle.std.specs.Prelude.{◌+◌, ◌-◌, ◌*◌, ◌≤◌, ◌<◌, ◌++◌}
 use mathlib.Core.Path.{refl, sym, ◌∙◌}
 use native.Mathlib.Omega.{arith}
 use borrow.Author.Rules.{rules}

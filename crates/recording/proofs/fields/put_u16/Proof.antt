@@ -1,5 +1,5 @@
 -- `put_u16` meets its contract: its two stores are one run. Assumes nothing.
-use Rattle.answer.specs.Basics.{◌/◌, ◌%◌}
+use Rattle.std.specs.Prelude.{◌/◌, ◌%◌}
 use native.Mathlib.Omega.{arith}
 use lib.ListN.{length-set}
 use Rattle.recording.proofs.{SetsLaws.two_stores, fields.put_u16.Statement.statement}

@@ -1,5 +1,5 @@
 -- `check_steps` meets its contract. The loop's invariant: what is left to decide decides the whole, and the sum fits. Assumes nothing.
-use Rattle.answer.specs.Basics.{◌-◌, ◌*◌, ◌≤◌, ◌≡◌}
+use Rattle.std.specs.Prelude.{◌-◌, ◌*◌, ◌≤◌, ◌≡◌}
 use mathlib.Core.Path.{sym, ◌∙◌}
 use borrow.Author.{Needs.needs, Tests.eq-eqb, Tests.ne_eqb}
 use Rattle.recording.specs.{Layout.longest_duration, Ticks.steps_from, Form.body_form}

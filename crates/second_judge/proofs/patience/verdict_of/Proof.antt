@@ -11,7 +11,7 @@ use Rattle.second_judge.proofs.patience.verdict_of.Tie as tie
 
 verdict : tie.Need-returns-13
 verdict c =
-    let ((((((first, acknowledgement), acknowledged), set-up), valid), carried), opened) = c.match.rest in
+    let ((((((first, acknowledgement), acknowledged), set_up), valid), carried), opened) = c.match.rest in
     let (((((_, end), start), hold), ready-to-send), ready_for_data) = first in
     let phase = c.before.args.phase in
     by_entry (λ (e : Entry). Among (the_end ∷ standing e) phase → Among (0 ∷ while_reading e) phase)

@@ -47,7 +47,7 @@ by-rows-spec =
     (λ c. elsewhere_both c.before.before.args.entry c.hold.ensures (omega arith)) from-ready-to-send
     (λ c. elsewhere c.before.before.args.entry c.ready_for_data.ensures (omega arith))
     from-acknowledgement from-acknowledged
-    (λ c. elsewhere_both c.before.before.args.entry c.set-up.ensures (omega arith))
+    (λ c. elsewhere_both c.before.before.args.entry c.set_up.ensures (omega arith))
     (λ c. elsewhere_both c.before.before.args.entry c.valid.ensures (omega arith))
     (λ c. elsewhere_both c.before.before.args.entry c.carried.ensures (omega arith))
     (λ c. elsewhere_both c.before.before.args.entry c.«open».ensures (omega arith))

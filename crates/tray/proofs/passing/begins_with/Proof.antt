@@ -3,7 +3,7 @@
 -- Assumes nothing.
 use borrow.Author.Rules.{rules}
 use native.Mathlib.Omega.{arith}
-use Rattle.answer.specs.Basics.{ℕ, ◌-◌, ◌≤◌, List, length, drop, ◌≡◌}
+use Rattle.std.specs.Prelude.{ℕ, ◌-◌, ◌≤◌, List, length, drop, ◌≡◌}
 use mathlib.Core.Path.{refl, sym, ◌∙◌}
 use Rattle.tray.specs.Passing.{begins_with}
 use Rattle.tray.proofs.PassingTests.{begins_none, begins_end, begins_other, begins_more}

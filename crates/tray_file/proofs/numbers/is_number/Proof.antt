@@ -1,7 +1,7 @@
 -- `is_number` meets its contract. Assumes nothing.
 use borrow.Author.{Needs.needs, Tests.not-true, Tests.not-false}
 use mathlib.Core.Path.{sym, ◌∙◌}
-use Rattle.answer.specs.Basics.{◌-◌, length}
+use Rattle.std.specs.Prelude.{◌-◌, length}
 use Rattle.tray_file.proofs.NumberLaws.{DigitsTo, no_text, digits_none, digits_next, digits_other, digits_all}
 use Rattle.tray_file.proofs.numbers.is_number.Statement.{statement}
 use Rattle.tray_file.proofs.numbers.is_number.Tie as tie

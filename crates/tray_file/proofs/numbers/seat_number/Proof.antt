@@ -1,6 +1,6 @@
 -- `seat_number` meets its contract. Assumes nothing.
 use borrow.Author.Rules.{rules}
-use Rattle.answer.specs.Basics.{◌-◌, length}
+use Rattle.std.specs.Prelude.{◌-◌, length}
 use Rattle.tray_file.proofs.NumberLaws.{Kept, kept_first, kept_next, kept_all}
 use Rattle.tray_file.proofs.numbers.seat_number.Statement.{statement}
 use Rattle.tray_file.proofs.numbers.seat_number.Tie as tie

@@ -1,7 +1,7 @@
 -- `read_state` meets its contract. Assumes nothing.
 use borrow.Author.Rules.{rules}
 use mathlib.Core.Path.{subst}
-use Rattle.answer.specs.Basics.{ℕ, List}
+use Rattle.std.specs.Prelude.{ℕ, List}
 use Rattle.tray_file.specs.Steps.{SameUntil}
 use Rattle.tray_file.proofs.ReadingLaws.{reads}
 use Rattle.tray_file.proofs.reading.read_state.Statement.{statement}

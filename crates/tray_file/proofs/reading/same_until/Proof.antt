@@ -2,7 +2,7 @@
 use borrow.Author.Rules.{rules}
 use borrow.Author.Count.{below_more}
 use native.Mathlib.Omega.{arith}
-use Rattle.answer.specs.Basics.{ℕ, ◌-◌, ◌<◌, ◌≤◌, length, get_or, ◌≡◌}
+use Rattle.std.specs.Prelude.{ℕ, ◌-◌, ◌<◌, ◌≤◌, length, get_or, ◌≡◌}
 use Rattle.tray_file.proofs.reading.same_until.Statement.{statement}
 use Rattle.tray_file.proofs.reading.same_until.Tie as tie
 

@@ -2,7 +2,7 @@
 use borrow.Author.Rules.{rules}
 use mathlib.Core.Path.{refl}
 use native.Mathlib.Omega.{arith}
-use Rattle.answer.specs.Basics.{◌-◌, get_or}
+use Rattle.std.specs.Prelude.{◌-◌, get_or}
 use Rattle.tray.specs.Tray.{vacant_seat}
 use Rattle.tray_file.specs.Steps.{telling_place, seat_told_by}
 use Rattle.tray_file.proofs.FillLaws.{Filled, filled_none, filled_next}

@@ -1,6 +1,6 @@
 -- `print_grid` is safe and ends: at each turn fewer seats are left. Assumes nothing.
 use borrow.Author.Rules.{rules}
-use Rattle.answer.specs.Basics.{◌-◌}
+use Rattle.std.specs.Prelude.{◌-◌}
 use Rattle.tray_file.proofs.show.print_grid.Statement.{statement}
 use Rattle.tray_file.proofs.show.print_grid.Tie as tie
 

@@ -1,7 +1,7 @@
 -- `state_byte` meets its contract. Assumes nothing.
 use borrow.Author.Rules.{rules}
 use mathlib.Core.Path.{ap, sym, ◌∙◌}
-use Rattle.answer.specs.Basics.{ℕ, ◌-◌, ◌%◌, List, get_or}
+use Rattle.std.specs.Prelude.{ℕ, ◌-◌, ◌%◌, List, get_or}
 use Rattle.tray_file.proofs.TextLaws.{heading_at, line_at}
 use Rattle.tray_file.proofs.state.state_byte.Statement.{statement}
 use Rattle.tray_file.proofs.state.state_byte.Tie as tie

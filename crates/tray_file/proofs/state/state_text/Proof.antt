@@ -1,7 +1,7 @@
 -- `state_text` meets its contract. Assumes nothing.
 use borrow.Author.Rules.{rules}
 use mathlib.Core.Path.{refl}
-use Rattle.answer.specs.Basics.{◌-◌, get_or}
+use Rattle.std.specs.Prelude.{◌-◌, get_or}
 use Rattle.tray_file.specs.State.{state_text}
 use Rattle.tray_file.proofs.{FillLaws.Filled, FillLaws.filled_none, FillLaws.filled_next, FillLaws.filled_all, TextLaws.text_length_lem}
 use Rattle.tray_file.proofs.state.state_text.Statement.{statement}

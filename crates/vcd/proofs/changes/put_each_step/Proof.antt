@@ -1,5 +1,5 @@
 -- `put_each_step` meets its contract. The loop's invariant: the steps that are left, put down from here, make the whole. Assumes nothing.
-use Rattle.answer.specs.Basics.{◌-◌, ◌*◌, ◌≤◌, length, ◌≡◌}
+use Rattle.std.specs.Prelude.{◌-◌, ◌*◌, ◌≤◌, length, ◌≡◌}
 use mathlib.Core.Path.{refl, sym, ◌∙◌}
 use native.Mathlib.Nat.{sub-zero}
 use borrow.Author.Rules.{rules}

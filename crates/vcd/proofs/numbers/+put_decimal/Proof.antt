@@ -1,5 +1,5 @@
 -- `put_decimal` meets its contract, in itself: the digits of a tenth, and then the last digit. The measure is the number. Assumes nothing.
-use Rattle.answer.specs.Basics.{ℕ, ◌<◌}
+use Rattle.std.specs.Prelude.{ℕ, ◌<◌}
 use native.Mathlib.Omega.{arith}
 use borrow.Author.Rules.{rules}
 use borrow.Fn.Kinds.{In}

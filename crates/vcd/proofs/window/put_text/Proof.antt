@@ -1,5 +1,5 @@
 -- `put_text` meets its contract. The loop's invariant: what is left of the text, put down from here, makes the whole. Assumes nothing.
-use Rattle.answer.specs.Basics.{◌-◌, ◌≤◌, length, drop, ◌≡◌}
+use Rattle.std.specs.Prelude.{◌-◌, ◌≤◌, length, drop, ◌≡◌}
 use mathlib.Core.Path.{refl, sym, ◌∙◌}
 use borrow.Author.Rules.{rules}
 use Rattle.vcd.specs.Put.{held, put}

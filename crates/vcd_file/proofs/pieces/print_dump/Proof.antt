@@ -1,7 +1,7 @@
 -- `print_dump` is safe and ends: each piece takes the offset further. Assumes nothing.
 use borrow.Author.Rules.{rules}
 use native.Mathlib.Omega.{arith}
-use Rattle.answer.specs.Basics.{◌-◌, length, ◌≡◌}
+use Rattle.std.specs.Prelude.{◌-◌, length, ◌≡◌}
 use Rattle.io.proofs.Counting.{length-take_of_le}
 use Rattle.vcd_file.proofs.{Onward.onward, pieces.print_dump.Statement.statement}
 use Rattle.vcd_file.proofs.pieces.print_dump.Tie as tie

@@ -1,5 +1,5 @@
 -- `put_bits` meets its contract. The loop's invariant: what is left of the value, put down from here, makes the whole. Assumes nothing.
-use Rattle.answer.specs.Basics.{◌+◌, ◌-◌, ◌*◌, ◌≤◌, length, ◌≡◌}
+use Rattle.std.specs.Prelude.{◌+◌, ◌-◌, ◌*◌, ◌≤◌, length, ◌≡◌}
 use mathlib.Core.Path.{refl, ◌∙◌}
 use borrow.Author.Rules.{rules}
 use Rattle.writer.specs.{WrittenSteps.bit_steps, Put.with_steps}

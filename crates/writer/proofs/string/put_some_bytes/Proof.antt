@@ -1,5 +1,5 @@
 -- `put_some_bytes` meets its contract. The loop's invariant: the bytes that are left, put down from here, make the whole. Assumes nothing.
-use Rattle.answer.specs.Basics.{◌-◌, ◌*◌, ◌≤◌, length, drop, ◌≡◌}
+use Rattle.std.specs.Prelude.{◌-◌, ◌*◌, ◌≤◌, length, drop, ◌≡◌}
 use mathlib.Core.Path.{refl, sym, ◌∙◌}
 use native.Mathlib.Omega.{arith}
 use borrow.Author.Rules.{rules}

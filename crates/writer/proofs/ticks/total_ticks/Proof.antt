@@ -1,5 +1,5 @@
 -- `total_ticks` meets its contract: the formula is the code's, and no sum is too large. Assumes nothing.
-use Rattle.answer.specs.Basics.{◌+◌, ◌-◌}
+use Rattle.std.specs.Prelude.{◌+◌, ◌-◌}
 use mathlib.Core.Path.{sym}
 use native.Mathlib.Omega.{arith}
 use Rattle.writer.proofs.{TickLaws.product_fits, TickLaws.ticks_none, TickLaws.ticks_some, ticks.total_ticks.Statement.statement}

@@ -1,5 +1,5 @@
 -- `case::Required::is_handed_over` is safe and ends. The bytes left are the measure. Assumes nothing.
-use Rattle.answer.specs.Basics.{◌-◌}
+use Rattle.std.specs.Prelude.{◌-◌}
 use Rattle.std.proofs.Common.{rules}
 use Rattle.compare.proofs.case.Required.is_handed_over.Statement.{statement}
 use Rattle.compare.proofs.case.Required.is_handed_over.Tie as tie

@@ -1,5 +1,5 @@
 -- `classes::strings::fill_drawn` is safe and ends. The loop keeps the length; the places left are the measure. Assumes nothing.
-use Rattle.answer.specs.Basics.{◌-◌, length, ◌≡◌}
+use Rattle.std.specs.Prelude.{◌-◌, length, ◌≡◌}
 use Rattle.std.proofs.Common.{rules}
 use Rattle.compare.proofs.classes.strings.fill_drawn.Statement.{statement}
 use Rattle.compare.proofs.classes.strings.fill_drawn.Tie as tie

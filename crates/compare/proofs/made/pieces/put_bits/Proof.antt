@@ -1,5 +1,5 @@
 -- `made::pieces::put_bits` is safe and ends. The loop keeps the length; the bits left are the measure. Assumes nothing.
-use Rattle.answer.specs.Basics.{◌-◌, length, ◌≡◌}
+use Rattle.std.specs.Prelude.{◌-◌, length, ◌≡◌}
 use Rattle.std.proofs.Common.{rules}
 use Rattle.compare.proofs.made.pieces.put_bits.Statement.{statement}
 use Rattle.compare.proofs.made.pieces.put_bits.Tie as tie

@@ -1,6 +1,6 @@
 -- `refused` meets its contract. Assumes nothing.
 use borrow.Author.Rules.{rules}
-use Rattle.answer.specs.Basics.{ℕ}
+use Rattle.std.specs.Prelude.{ℕ}
 use mathlib.Core.Path.{ap}
 use Rattle.tray.proofs.seat.Seat.refused.Statement.{statement}
 use Rattle.tray.proofs.seat.Seat.refused.Tie as tie

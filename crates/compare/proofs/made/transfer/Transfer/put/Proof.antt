@@ -1,5 +1,5 @@
 -- `made::transfer::Transfer::put` is safe and ends. The loop keeps the length; the bytes left are the measure. Assumes nothing.
-use Rattle.answer.specs.Basics.{◌-◌, length, ◌≡◌}
+use Rattle.std.specs.Prelude.{◌-◌, length, ◌≡◌}
 use Rattle.std.proofs.Common.{rules}
 use Rattle.compare.proofs.made.transfer.Transfer.put.Statement.{statement}
 use Rattle.compare.proofs.made.transfer.Transfer.put.Tie as tie

@@ -1,0 +1,19 @@
+use Rattle.transfer.specs.Phases.{next}
+use Rattle.reader.proofs.Tests.{tests}
+use Rattle.reader.proofs.state.State.first_hold.Goals as goal
+
+pub returns-then-lines-2 : goal.returns-then-lines-2
+unfolding next
+returns-then-lines-2 c = search tests
+
+pub returns-then-lines : goal.returns-then-lines
+unfolding next
+returns-then-lines c = search tests
+
+pub returns-then-lines-3 : goal.returns-then-lines-3
+unfolding next
+returns-then-lines-3 c = search tests
+
+pub returns : goal.returns
+unfolding next
+returns c = search tests

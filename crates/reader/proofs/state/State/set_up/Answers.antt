@@ -1,0 +1,15 @@
+use Rattle.transfer.specs.Phases.{next}
+use Rattle.reader.proofs.Tests.{tests}
+use Rattle.reader.proofs.state.State.set_up.Goals as goal
+
+pub returns-then-lines : goal.returns-then-lines
+unfolding next
+returns-then-lines c = search tests
+
+pub returns-then-same : goal.returns-then-same
+unfolding next
+returns-then-same c = search tests
+
+pub returns : goal.returns
+unfolding next
+returns c = search tests
