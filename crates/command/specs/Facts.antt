@@ -1,5 +1,5 @@
 -- How many bytes each class has: together all 256, so no range reaches into another.
-use Rattle.std.specs.Prelude.{ℕ, zero, suc, ◌+◌, List, [], ◌∷◌, map, ◌≡◌, eqb, if◌then◌else◌}
+use Rattle.std.specs.Prelude.{ℕ, zero, suc, ◌+◌, [], ◌∷◌, map, ◌≡◌, eqb, if◌then◌else◌}
 use Rattle.command.specs.Types.{Class, Listen, Unlisten, Talk, Untalk, Secondary, Close, Open, Other}
 use Rattle.command.specs.Classes.{class_of, class_number}
 

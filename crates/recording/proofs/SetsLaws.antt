@@ -1,7 +1,7 @@
 -- Runs of stores: one run after another is one run. Assumes nothing.
 use Rattle.std.specs.Prelude.{ℕ, suc, ◌+◌, List, [], ◌∷◌, ◌++◌, length, set, ◌≡◌}
 use mathlib.Core.Path.{sym}
-use native.Mathlib.{Nat.add-zero, Numerals.add-one, Omega.arith}
+use native.Mathlib.{Nat.add-zero, Omega.arith}
 use lib.Seq.{sets}
 
 pub sets-append : (l : List ℕ) (at : ℕ) (xs ys : List ℕ) → sets l at (xs ++ ys) ≡ sets (sets l at xs) (at + length xs) ys
@@ -16,10 +16,3 @@ pub two_more : (l : List ℕ) (at : ℕ) (xs : List ℕ) (y z : ℕ)
 two_more l at xs y z =
     let e : at + suc (length xs) ≡ suc (at + length xs) = omega arith in
     rw e (sym (sets-append l at xs (y ∷ z ∷ [])))
-
-pub two_stores : (l : List ℕ) (at x y : ℕ) → set (set l at x) (at + 1) y ≡ sets l at (x ∷ y ∷ [])
-two_stores l at x y = rw (add-one at)
-
-pub four_stores : (l : List ℕ) (at x y z w : ℕ)
-    → set (set (set (set l at x) (at + 1) y) (at + 2) z) (at + 3) w ≡ sets l at (x ∷ y ∷ z ∷ w ∷ [])
-four_stores l at x y z w = rw (add-one at) (two_more l at (x ∷ y ∷ []) z w)

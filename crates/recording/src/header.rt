@@ -8,7 +8,7 @@ use crate::step::Step;
 use crate::test::Test;
 use answer::Refusal;
 
-#[derive(Drop)]
+#[derive(Clone, Copy)]
 pub struct Header {
     pub version: u16,
     // How many steps follow.
@@ -60,6 +60,7 @@ impl Header {
         }
     }
 
+    #[tactic(auto, unfolding(crate::specs::FileOf::header_bytes))]
     pub fn write(self, destination: &mut [u8])
         requires { header_size ≤ length destination.old }
         ensures { destination.new ≡ sets destination.old 0 (header_bytes self) }
@@ -72,6 +73,7 @@ impl Header {
     }
 
     // Refusals 2 to 5; `size` is the file's true length.
+    #[tactic(auto, using(crate::proofs::Tests::tests), unfolding(crate::specs::Form::header_test))]
     pub(crate) fn test(self, size: usize) -> Test
         ensures { result ≡ header_test self size }
     {

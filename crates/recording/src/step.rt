@@ -8,7 +8,7 @@ use crate::header::Header;
 use crate::test::Test;
 use answer::Refusal;
 
-#[derive(Drop)]
+#[derive(Clone, Copy)]
 pub struct Step {
     pub duration: u16,
     pub lines: u8,
@@ -55,6 +55,7 @@ impl Step {
     }
 
     // Refusals 6 and 7.
+    #[tactic(auto, using(crate::proofs::Tests::tests), unfolding(crate::specs::Form::step_test))]
     pub(crate) fn test(self) -> Test
         ensures { result ≡ step_test self }
     {

@@ -1,25 +1,19 @@
 -- Laws on lent memory that keeps what it held, and on a recording's ticks. Assumes nothing.
-use Prim.Native.Nat.{ℕ, zero, suc, ◌+◌, ◌-◌, ◌≤◌, ◌<◌}
+use Prim.Native.Nat.{ℕ, zero, suc, ◌+◌, ◌-◌, ◌≤◌}
 use native.Mathlib.Nat.{le_of_suc-le-suc, eq-or-lt_of_le}
 use native.Mathlib.Numerals.{add-one}
 use native.Mathlib.Omega.{arith}
 use mathlib.Core.List.{List}
 use mathlib.Core.Logic.{⊎_elim}
 use mathlib.Core.Path.{◌≡◌, ◌∙◌, refl, ap}
-use lib.ListN.{length, set, length-set}
-use lib.Seq.{drop-drop, drop-set-lt}
-use Rattle.second_judge.specs.Promise.{Answered, Kept}
+use lib.Seq.{drop-drop}
+use Rattle.second_judge.specs.Promise.{Kept}
 use Rattle.second_judge.specs.Recording.{duration, ticks}
-use Rattle.second_judge.specs.declared.Finding.{Finding}
-use Rattle.second_judge.specs.declared.entry.Entry.{Entry}
 
 -- ---- lent memory
 
 pub kept_same : {k : ℕ} {a : List ℕ} → Kept k a a
 kept_same = record { as_long = refl; the_same = refl }
-
-pub kept_set : (k i : ℕ) (a : List ℕ) (v : ℕ) → i < k → Kept k a (set a i v)
-kept_set k i a v below = record { as_long = length-set a i v; the_same = drop-set-lt k a i v below }
 
 pub kept_both : {k : ℕ} {a b c : List ℕ} → Kept k a b → Kept k b c → Kept k a c
 kept_both first next =
@@ -33,14 +27,6 @@ kept_from {j} {k} {a} {b} later kept =
       as_long = kept.as_long;
       the_same = rw (there, ← drop-drop (k - j) j b, ← drop-drop (k - j) j a, kept.the_same);
     }
-
--- an answer leaves the lent memory as long as it was
-pub as_long_answered : {entry : Entry} {finding : Finding} {file bytes bytes' ledger ledger' : List ℕ}
-    → Answered entry finding file bytes bytes' ledger ledger'
-    → (length bytes' ≡ length bytes) × (length ledger' ≡ length ledger)
-as_long_answered answered =
-    ⊎_elim (λ refused. (ap length refused.same_bytes, ap length refused.same_ledger))
-    (λ judged. (judged.bytes_kept.as_long, judged.ledger_kept.as_long)) answered
 
 -- ---- a recording's ticks
 

@@ -1,6 +1,6 @@
 -- The numbers that a judge may give, from document 01's "Numbers and what they leave" and document 02's #101 and #103, and
 -- those that the reading goes through, from `src/phase.rt`. A further number is a further place in a list. Assumes nothing.
-use Rattle.second_judge.specs.{ℕ, cond, eqb, List, [], ◌∷◌, ◌++◌, ◌≡◌}
+use Rattle.std.specs.Prelude.{ℕ, cond, eqb, List, [], ◌∷◌, ◌++◌, ◌≡◌}
 use Rattle.second_judge.specs.declared.entry.Entry.{Entry}
 use Rattle.second_judge.specs.declared.entry.Entry.TheVariants.{Plain, Command}
 

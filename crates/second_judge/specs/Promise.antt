@@ -1,10 +1,10 @@
 -- What both entries, `judge_by_steps` and `judge_command_by_steps`, promise of their finding of `file` and of the lent
 -- memory: `bytes` and `ledger` are what was lent, `bytes'` and `ledger'` what it is at the end. Assumes nothing.
-use Rattle.second_judge.specs.{ℕ, ◌+◌, ◌*◌, ◌<◌, List, [], ◌∷◌, length, drop, ◌≡◌, ◌⊎◌}
+use Rattle.std.specs.Prelude.{ℕ, ◌+◌, ◌*◌, ◌<◌, List, [], ◌∷◌, length, drop, ◌≡◌, ◌⊎◌}
 use Rattle.second_judge.specs.declared.Finding.{Finding}
 use Rattle.second_judge.specs.declared.entry.Entry.{Entry}
 use Rattle.second_judge.specs.Numbers.{Among, refusals, verdicts, while_reading}
-use Rattle.second_judge.specs.Recording.{step_count, total_ticks_lem, lines, AtRest, Marked, Unmarked, ticks}
+use Rattle.second_judge.specs.Recording.{step_count, total_ticks, lines, AtRest, Marked, Unmarked, ticks}
 
 -- "All further places keep what they held."
 pub record Kept (further : ℕ) (before after : List ℕ) : Type 0 where
@@ -35,7 +35,7 @@ pub record Heeded (entry : Entry) (finding : Finding) (file : List ℕ) : Type 0
 -- "Its count is the bytes handed over. The byte buffer begins with those; the ledger begins with two ticks for each."
 pub record Judged (entry : Entry) (finding : Finding) (file bytes bytes' ledger ledger' : List ℕ) : Type 0 where
   pub a_verdict : Among (verdicts entry) finding.number
-  pub timed : Timed finding (total_ticks_lem file) (step_count file)
+  pub timed : Timed finding (total_ticks file) (step_count file)
   pub heeded : Heeded entry finding file
   -- "E end. .. Any tick other than (0,0): 37.", and with ATN 23; "After the finish only a pull of ATN matters: 37."
   pub at_rest : finding.number ≡ 20 → (last : ℕ) → last + 1 ≡ step_count file → AtRest entry (lines file last)

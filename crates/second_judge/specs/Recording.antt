@@ -1,5 +1,5 @@
 -- Document 01, "Recording layout", as far as the promises name it: `file` is a list of bytes. Assumes nothing.
-use Rattle.second_judge.specs.{ℕ, zero, suc, ◌+◌, ◌*◌, ◌%◌, ◌≤◌, ◌<◌, List, length, get_or, ◌≡◌}
+use Rattle.std.specs.Prelude.{ℕ, zero, suc, ◌+◌, ◌*◌, ◌%◌, ◌≤◌, ◌<◌, List, length, get_or, ◌≡◌}
 use Rattle.second_judge.specs.declared.entry.Entry.{Entry}
 use Rattle.second_judge.specs.declared.entry.Entry.TheVariants.{Plain, Command}
 
@@ -15,8 +15,8 @@ abbrev pub step_count : List ℕ → ℕ
 step_count file = two_bytes file 2
 
 -- "8-11 total ticks, the sum of all durations"
-abbrev pub total_ticks_lem : List ℕ → ℕ
-total_ticks_lem file = four_bytes file 8
+abbrev pub total_ticks : List ℕ → ℕ
+total_ticks file = four_bytes file 8
 
 -- "Each step is 4 bytes: duration 1 to 65,535 in two bytes; lines in one byte"; and in the last byte #103's mark
 abbrev pub duration : List ℕ → ℕ → ℕ
@@ -51,5 +51,5 @@ pub record Passed (file : List ℕ) (steps : ℕ) : Type 0 where
   pub few : steps ≤ 16000
   pub whole : 16 + 4 * steps ≤ length file
   pub counted : steps ≡ step_count file
-  pub summed : total_ticks_lem file ≡ ticks file steps
+  pub summed : total_ticks file ≡ ticks file steps
   pub lasting : (step : ℕ) → step < steps → 0 < duration file step

@@ -1,6 +1,5 @@
 // Document 02's #101: what ATN says in a command recording, "tested before the phase's rows".
-ghost use mathlib.Core.{List.◌∷◌, List.◌++◌, List.[], Path.◌≡◌};
-ghost use Rattle.std.specs.Prelude.{◌%◌};
+ghost use Rattle.std.specs.Prelude.{[], ◌∷◌, ◌++◌, ◌≡◌, ◌%◌};
 ghost use Rattle.second_judge.specs.Numbers.{Among, ending, finish, leading, standing, stay, the_end};
 
 use crate::entry::Entry;

@@ -6,7 +6,7 @@ use crate::phase;
 // A further bit comes in at the top: after eight of them the first is the least significant.
 const BIT_8: u32 = 128;
 
-#[derive(Drop)]
+#[derive(Clone, Copy)]
 pub struct Byte {
     // The bits so far, and how many they are.
     pub value: u32,

@@ -1,6 +1,6 @@
 // Which of the two entries is asked. What it is travels as this value; the rows that both share stand once.
 
-#[derive(Drop)]
+#[derive(Clone, Copy)]
 pub enum Entry {
     // Document 01's: "One data transfer: one sender, one receiver, ATN released throughout."
     Plain,

@@ -1,5 +1,5 @@
 // The rows of the handover, "offset 0 being the CLK pull after bit 8".
-ghost use Rattle.second_judge.specs.Numbers.{Among, leading-both};
+ghost use Rattle.second_judge.specs.Numbers.{Among, leading_both};
 
 use crate::{limits, lines, numbers, phase, rows};
 
@@ -7,7 +7,7 @@ use crate::{limits, lines, numbers, phase, rows};
 // tick before: with DATA pulled now, bit 8 was one where DATA is steady and zero where it is not.
 // A choice: a one that is released at offset 0 itself is "(1,0) at offset up to 100", open from offset 0.
 pub fn first(pulled: u32, steady: bool) -> u32
-    ensures { Among leading-both result }
+    ensures { Among leading_both result }
 {
     match pulled {
         lines::BOTH => if steady {
@@ -22,7 +22,7 @@ pub fn first(pulled: u32, steady: bool) -> u32
 // Open: "CLK released while DATA has been open: 26. (1,0) stays. (1,1): the take; go to B."
 // A choice: offset 1,000 showing (1,1) is a take; 35 is for (1,0).
 pub fn open(pulled: u32) -> u32
-    ensures { Among leading-both result }
+    ensures { Among leading_both result }
 {
     match pulled {
         lines::BOTH => phase::HOLD,
@@ -35,7 +35,7 @@ pub fn open(pulled: u32) -> u32
 // later 26. (0,1) at offset 101 or more: go to C; sooner 36." The 101 is the hold of 100 after a take at offset 1.
 // A choice: (0,0) is 26 at every offset, also where (0,1) would be 36; carried itself has no limit.
 pub fn carried(pulled: u32, offset: u32) -> u32
-    ensures { Among leading-both result }
+    ensures { Among leading_both result }
 {
     match pulled {
         lines::BOTH => phase::STAY,

@@ -3,6 +3,8 @@
 // It goes by steps and durations: in each step the first tick is tried against the rows of the phase, and of the ticks
 // after it, which show the same lines, only the limit of the phase is asked. "A choice" marks the places where a
 // document was read in one of several ways.
+#![tactic(auto)]
+
 ghost use Rattle.second_judge.specs.Promise.{Answered};
 
 mod attention;

@@ -1,5 +1,5 @@
 // What a tick leads to, unless a mark has decided it (#103): each entry asks ATN first, and then the rows.
-ghost use mathlib.Core.{List.◌∷◌, List.◌++◌, Path.◌≡◌};
+ghost use Rattle.std.specs.Prelude.{◌∷◌, ◌++◌, ◌≡◌};
 ghost use Rattle.second_judge.specs.Numbers.{Among, ending, leading, standing, stay, the_end};
 ghost use Rattle.second_judge.specs.Recording.{AtRest};
 

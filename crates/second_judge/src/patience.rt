@@ -1,7 +1,6 @@
 // How long a phase may last while its lines stay as they are: the rows that say "stay; at offset .. it is ..".
-ghost use mathlib.Core.{List.◌∷◌, Path.◌≡◌};
-ghost use Rattle.std.specs.Prelude.{◌<◌};
-ghost use Rattle.second_judge.specs.Numbers.{Among, standing, the_end, while-reading};
+ghost use Rattle.std.specs.Prelude.{◌∷◌, ◌≡◌, ◌<◌};
+ghost use Rattle.second_judge.specs.Numbers.{Among, standing, the_end, while_reading};
 
 use crate::entry::Entry;
 use crate::place::Place;
@@ -11,7 +10,7 @@ use crate::{Finding, limits, numbers, phase};
 // number. The place is the one after the first tick. A limit's tick may lie after the recording's last, and so is wide.
 pub fn found_in(entry: Entry, place: Place, count: u32, step: u32, end: u32) -> Finding
     requires { Among (the_end ∷ standing entry) place.phase }
-    ensures { Among (0 ∷ while-reading entry) result.number × (result.step ≡ step) × (result.count ≡ count)
+    ensures { Among (0 ∷ while_reading entry) result.number × (result.step ≡ step) × (result.count ≡ count)
         × ((result.number ≡ 0 → ⊥) → result.tick < end) }
 {
     let phase = place.phase;
@@ -71,7 +70,7 @@ fn silence_limit(entry: Entry) -> u32 {
 }
 
 fn silence_verdict(entry: Entry) -> u32
-    ensures { Among (0 ∷ while-reading entry) result }
+    ensures { Among (0 ∷ while_reading entry) result }
 {
     match entry {
         Entry::Plain => numbers::END_MARK_NOT_ACKNOWLEDGED,
@@ -82,7 +81,7 @@ fn silence_verdict(entry: Entry) -> u32
 // The verdict at that offset. G: "it is 21 if no byte was handed over, otherwise 31". B, C, carried and E have none.
 fn verdict_of(entry: Entry, phase: u32, count: u32) -> u32
     requires { Among (the_end ∷ standing entry) phase }
-    ensures { Among (0 ∷ while-reading entry) result }
+    ensures { Among (0 ∷ while_reading entry) result }
 {
     match phase {
         phase::END => numbers::NONE,

@@ -4,7 +4,7 @@ ghost use Rattle.second_judge.specs.Numbers.{Follows};
 
 use crate::{limits, phase};
 
-#[derive(Drop)]
+#[derive(Clone, Copy)]
 pub struct Place {
     pub phase: u32,
     // "Offsets count from a phase's first tick, the one that leads into it"; in carried and open, from the CLK pull
@@ -44,7 +44,7 @@ pub fn place_of(
 // later and both are set anew.
 pub fn after(before: Place, next: u32, tick: u32, step: u32) -> Place
     requires { (before.since ≤ tick) × (before.since_step ≤ step) × (tick ≤ 2000000000) }
-    ensures since_le_tick { (result.since ≤ tick) × (result.since_step ≤ step) }
+    ensures in_time { (result.since ≤ tick) × (result.since_step ≤ step) }
     ensures follows { Follows before.phase next result.phase }
 {
     let ready_for_data = before.ready_for_data;

@@ -1,6 +1,5 @@
 // "Reading goes from state to state and stops for good at the deciding tick": here from step to step.
-ghost use mathlib.Core.{List.[], List.◌∷◌, Path.◌≡◌};
-ghost use Rattle.std.specs.Prelude.{◌<◌};
+ghost use Rattle.std.specs.Prelude.{[], ◌∷◌, ◌≡◌, ◌<◌};
 ghost use Rattle.second_judge.specs.Numbers.{Among, the_end};
 ghost use Rattle.second_judge.specs.Promise.{Judged, Timed};
 ghost use Rattle.second_judge.specs.Recording.{Passed};

@@ -1,6 +1,5 @@
 // "Refusals, tested in this order": the header's and the lent memory's rows of the table.
-ghost use mathlib.Core.{List.◌∷◌, Path.◌≡◌};
-ghost use Rattle.std.specs.Prelude.{◌+◌, ◌*◌, ◌≤◌, ◌<◌};
+ghost use Rattle.std.specs.Prelude.{◌∷◌, ◌≡◌, ◌+◌, ◌*◌, ◌≤◌, ◌<◌};
 ghost use Rattle.second_judge.specs.Numbers.{Among, refusals};
 ghost use Rattle.second_judge.specs.Recording.{Passed};
 

@@ -1,15 +1,15 @@
 // The rows of the phases but bits and handover, each for one tick of which ATN decides nothing, in document 01's order.
 // The limits on staying are not here but in patience.
-ghost use mathlib.Core.{Bool.true, List.◌∷◌, Path.◌≡◌};
-ghost use Rattle.second_judge.specs.Numbers.{Among, leading, leading-both, stay, the_end};
+ghost use Rattle.std.specs.Prelude.{true, ◌∷◌, ◌≡◌};
+ghost use Rattle.second_judge.specs.Numbers.{Among, leading, leading_both, stay, the_end};
 
 use crate::entry::Entry;
 use crate::{limits, lines, numbers, phase};
 
 // One thing below a limit, another from it on.
 pub fn by_limit(reached: u32, limit: u32, below: u32, from: u32) -> u32
-    requires { Among leading-both below × Among leading-both from }
-    ensures { Among leading-both result }
+    requires { Among leading_both below × Among leading_both from }
+    ensures { Among leading_both result }
 {
     if reached < limit { below } else { from }
 }
@@ -17,7 +17,7 @@ pub fn by_limit(reached: u32, limit: u32, below: u32, from: u32) -> u32
 // A: "Tick 0 with CLK released: 25. CLK released later: 26. (1,1): go to B. (1,0): stay". Tick 0 is A's offset 0.
 // A choice: at offset 256 too, CLK released is 26 and (1,1) goes to B; only (1,0) is 24 there.
 pub fn start(pulled: u32, offset: u32) -> u32
-    ensures { Among leading-both result }
+    ensures { Among leading_both result }
 {
     match pulled {
         lines::BOTH => phase::HOLD,
@@ -30,7 +30,7 @@ pub fn start(pulled: u32, offset: u32) -> u32
 // released: 26." After a byte the hold's offset 0 is the take; before the first one nothing is asked of the hold.
 // A choice: DATA released is 26 with CLK pulled or released, and at every offset.
 pub fn hold(pulled: u32, offset: u32, bits: u32) -> u32
-    ensures { Among leading-both result }
+    ensures { Among leading_both result }
 {
     match pulled {
         lines::BOTH => phase::STAY,
@@ -50,7 +50,7 @@ pub fn hold(pulled: u32, offset: u32, bits: u32) -> u32
 // C: "(0,1): stay, no limit (003). (0,0): go to D, or to the end E if the byte just handed over had the end mark. CLK
 // pulled: 26." Before the first byte no byte has the end mark.
 pub fn ready_to_send(pulled: u32, end_mark: bool) -> u32
-    ensures { Among (the_end ∷ leading-both) result × (result ≡ the_end → (pulled ≡ 0) × (end_mark ≡ true)) }
+    ensures { Among (the_end ∷ leading_both) result × (result ≡ the_end → (pulled ≡ 0) × (end_mark ≡ true)) }
 {
     match pulled {
         lines::DATA => phase::STAY,
@@ -130,7 +130,7 @@ pub fn acknowledged(pulled: u32, offset: u32) -> u32
 
 // E: "Any tick other than (0,0): 37."
 pub fn end(pulled: u32) -> u32
-    ensures { Among leading-both result × (result ≡ stay → pulled ≡ 0) }
+    ensures { Among leading_both result × (result ≡ stay → pulled ≡ 0) }
 {
     match pulled {
         lines::NEITHER => phase::STAY,

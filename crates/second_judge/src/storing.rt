@@ -17,9 +17,9 @@ pub fn hand_over(
     ledger: &mut [u32],
 ) -> u32
     requires { count ≤ 16000 }
-    ensures lower_bound { (count ≤ result) × (result ≤ count + 1) }
-    ensures kept { Kept result bytes.old bytes.new }
-    ensures kept_2 { Kept (2 * result) ledger.old ledger.new }
+    ensures counted { (count ≤ result) × (result ≤ count + 1) }
+    ensures bytes_kept { Kept result bytes.old bytes.new }
+    ensures ledger_kept { Kept (2 * result) ledger.old ledger.new }
 {
     match next {
         phase::HAND_OVER | phase::FINISH => {

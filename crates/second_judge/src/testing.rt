@@ -1,7 +1,6 @@
 // The steps' refusals: "Steps are tested first to last, 6 before 7 in one step." A choice: so a 7 in an earlier step
 // goes before a 6 in a later one, and both before 8 and 9.
-ghost use mathlib.Core.{List.◌∷◌, Path.◌≡◌};
-ghost use Rattle.std.specs.Prelude.{◌+◌, ◌*◌, ◌≤◌, ◌<◌, length};
+ghost use Rattle.std.specs.Prelude.{◌∷◌, ◌≡◌, ◌+◌, ◌*◌, ◌≤◌, ◌<◌, length};
 ghost use Rattle.second_judge.specs.Numbers.{Among, refusals};
 ghost use Rattle.second_judge.specs.Recording.{step_count, Passed};
 

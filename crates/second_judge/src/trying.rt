@@ -1,6 +1,5 @@
 // Which rows a tick is tried against.
-ghost use mathlib.Core.{Bool.true, List.◌∷◌, Path.◌≡◌};
-ghost use Rattle.std.specs.Prelude.{◌/◌, ◌%◌};
+ghost use Rattle.std.specs.Prelude.{true, ◌∷◌, ◌≡◌, ◌/◌, ◌%◌};
 ghost use Rattle.second_judge.specs.Numbers.{Among, leading, standing, stay, the_end};
 
 use crate::entry::Entry;

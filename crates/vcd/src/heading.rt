@@ -4,6 +4,7 @@ ghost use Rattle.vcd.specs.{Dump.heading, Put.held, Put.Puts};
 use crate::window;
 use crate::window::Window;
 
+#[tactic(auto, unfolding(crate::specs::Dump::heading))]
 pub(crate) fn put_heading(destination: &mut [u8], window: Window) -> Window
     ensures { Puts heading (held window destination.old) (held result destination.new) }
 {

@@ -9,6 +9,7 @@ use recording::Step;
 const LOST: u8 = 16;
 
 // In the first tick, which alone has the step's mark.
+#[tactic(auto, unfolding(crate::specs::Steps::shown_first))]
 pub(crate) fn shown_first(step: Step) -> u8
     requires { step.lines < line_bound }
     ensures { result ≡ shown_first step }
@@ -20,6 +21,7 @@ pub(crate) fn shown_first(step: Step) -> u8
 }
 
 // In the last tick: the lines alone, unless it is the first too.
+#[tactic(auto, using(recording::proofs::Tests::tests), unfolding(crate::specs::Steps::shown_last))]
 pub(crate) fn shown_last(step: Step) -> u8
     requires { step.lines < line_bound }
     ensures { result ≡ shown_last step }

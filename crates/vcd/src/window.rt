@@ -23,6 +23,7 @@ impl Window {
 }
 
 // One byte of a text: passed over, put down, or left out where no room is left.
+#[tactic(auto, using(recording::proofs::Tests::tests), unfolding(crate::specs::Put::put_byte, crate::specs::Put::put))]
 pub(crate) fn put_byte(destination: &mut [u8], window: Window, byte: u8) -> Window
     ensures { Puts (byte ∷ []) (held window destination.old) (held result destination.new) }
 {

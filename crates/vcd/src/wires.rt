@@ -6,7 +6,7 @@ ghost use Rattle.vcd.specs.Wires.{bit_of, identifier_of, high_bit, level_of, val
 use crate::window;
 use crate::window::Window;
 
-#[derive(Drop)]
+#[derive(Clone, Copy)]
 pub(crate) enum Wire {
     Atn,
     Clk,

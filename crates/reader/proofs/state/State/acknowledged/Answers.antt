@@ -16,8 +16,8 @@ returns-then-below c = search tests
 
 pub returns-then-some_handed : goal.returns-then-some_handed
 unfolding next
-returns-then-some_handed c = search tests
+returns-then-some_handed c = rw (c.if-lines.false, c.if-lines-2.false, ← c.below.ensures, c.if-below.false, c.if-some_handed.true) c.stop-then-some_handed.ensures
 
 pub returns : goal.returns
 unfolding next
-returns c = search tests
+returns c = rw (c.if-lines.false, c.if-lines-2.false, ← c.below.ensures, c.if-below.false, c.if-some_handed.false) c.stop-2.ensures

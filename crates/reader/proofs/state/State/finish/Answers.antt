@@ -1,20 +1,19 @@
-use Rattle.std.proofs.Common.{rules, ℕ, ◌+◌, ◌-◌, ◌*◌, ◌<◌, ◌≤◌, length, ◌/◌, ◌%◌, Bool, true, false, nat_eq, nat_lt, List, [], ◌∷◌, ◌++◌, slice_index_or, slice_set, bit_and, bit_or, Fits, w8, w32, w64, Bor, MutBor}
-use Rattle.std.specs.Prelude.{◌≡◌}
-use Rattle.reader.specs.States.{is_under_way, turned_in, released_in, finished_in, Countable}
+use Rattle.transfer.specs.Moves.{finishing}
+use Rattle.reader.specs.States.{follow}
 use Rattle.reader.proofs.state.State.finish.Goals as goal
 
--- src/attention.rt:61:13
 pub returns-then-too_soon : goal.returns-then-too_soon
-returns-then-too_soon c = ?
+unfolding finishing follow
+returns-then-too_soon c = rw c.if-too_soon.true c.stop.ensures
 
--- src/attention.rt:65:17
 pub returns-then-lines-2 : goal.returns-then-lines-2
-returns-then-lines-2 c = ?
+unfolding finishing follow
+returns-then-lines-2 c = rw (c.if-too_soon.false, c.if-lines.true, c.if-lines-2.true) c.hand.ensures
 
--- src/attention.rt:67:13
 pub returns-then-lines : goal.returns-then-lines
-returns-then-lines c = ?
+unfolding finishing follow
+returns-then-lines c = rw (c.if-too_soon.false, c.if-lines.true, c.if-lines-2.false) c.stop-then-lines.ensures
 
--- src/attention.rt:55:5
 pub returns : goal.returns
-returns c = ?
+unfolding finishing follow
+returns c = rw (c.if-too_soon.false, c.if-lines.false) c.stop-2.ensures

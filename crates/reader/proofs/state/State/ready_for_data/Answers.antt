@@ -12,4 +12,4 @@ returns-then-lines-2 c = search tests
 
 pub returns : goal.returns
 unfolding next
-returns c = search tests
+returns c = rw (c.if-lines.false, c.if-lines-2.false, ← c.long_silence.ensures) c.go_below-2.ensures

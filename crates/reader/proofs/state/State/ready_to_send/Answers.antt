@@ -12,8 +12,8 @@ returns-then-lines-2 c = search tests
 
 pub returns-then-ended : goal.returns-then-ended
 unfolding next
-returns-then-ended c = search tests
+returns-then-ended c = rw (c.if-lines.false, c.if-lines-2.false, c.if-ended.true) c.go-then-ended.ensures
 
 pub returns : goal.returns
 unfolding next
-returns c = search tests
+returns c = rw (c.if-lines.false, c.if-lines-2.false, c.if-ended.false) c.go-2.ensures

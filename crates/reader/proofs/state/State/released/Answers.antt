@@ -1,12 +1,15 @@
-use Rattle.std.proofs.Common.{rules, ℕ, ◌+◌, ◌-◌, ◌*◌, ◌<◌, ◌≤◌, length, ◌/◌, ◌%◌, Bool, true, false, nat_eq, nat_lt, List, [], ◌∷◌, ◌++◌, slice_index_or, slice_set, bit_and, bit_or, Fits, w8, w32, w64, Bor, MutBor}
-use Rattle.std.specs.Prelude.{◌≡◌}
-use Rattle.reader.specs.States.{is_under_way, turned_in, released_in, finished_in, Countable}
+use Rattle.std.proofs.Common.{◌∙◌}
+use Rattle.reader.proofs.Tests.{released_told, finished_by, from_offset_1}
 use Rattle.reader.proofs.state.State.released.Goals as goal
 
--- src/attention.rt:34:5
 pub returns-in-Hold : goal.returns-in-Hold
-returns-in-Hold c = ?
+returns-in-Hold c =
+    let a = c.args in
+    released_told a.limits a.self a.lines c.in-Hold.is
+    (finished_by a.self a.lines _ c.below-too_soon.ensures c.finish.ensures)
 
--- src/attention.rt:34:5
 pub returns-in-Carried : goal.returns-in-Carried
-returns-in-Carried c = ?
+returns-in-Carried c =
+    let a = c.args in
+    released_told a.limits a.self a.lines c.in-Carried.is
+    (finished_by a.self a.lines _ (c.up_to-too_soon.ensures ∙ from_offset_1 _ _ _) c.finish-in-Carried.ensures)

@@ -8,11 +8,11 @@ returns-then-below c = search tests
 
 pub returns-then-bits_left-eq0 : goal.returns-then-bits_left-eq0
 unfolding next
-returns-then-bits_left-eq0 c = search tests
+returns-then-bits_left-eq0 c = search (tests, ← c.with_bit-value.ensures)
 
 pub returns-then-lines : goal.returns-then-lines
 unfolding next
-returns-then-lines c = search tests
+returns-then-lines c = search (tests, ← c.with_bit-value.ensures)
 
 pub returns-then-same : goal.returns-then-same
 unfolding next

@@ -1,0 +1,9 @@
+-- One computation compares the whole table with the definition.
+use Rattle.std.proofs.Common.{refl, rules}
+use Rattle.command.specs.{Classes.class_of, Table.class_by}
+use Rattle.command.proofs.TableLaw.{by_table}
+use Rattle.command.proofs.table.class_of.Goals as goal
+
+pub returns : goal.returns
+unfolding class_of class_by
+returns c = by_table _ _ c.class_at.ensures (search rules) refl
