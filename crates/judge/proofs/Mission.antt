@@ -1,7 +1,7 @@
 -- What the station stands on. Assumes nothing.
 use Rattle.std.specs.Prelude.{ℕ, zero, suc, ◌≤◌, Bool, true, false, List, [], ◌++◌, length, replicate, ◌≡◌, ltb}
 use mathlib.Core.Bool.{false≢true}
-use mathlib.Core.Path.{refl, sym, ap, subst, subst⁻¹, ◌∙◌}
+use mathlib.Core.Path.{refl, sym, ap, subst⁻¹, ◌∙◌}
 use native.Mathlib.Omega.{arith}
 use lib.ListN.{length-map}
 use borrow.Author.Tests.{ltb-true, ltb-false}
