@@ -61,7 +61,7 @@ same_seat : {seat : Seat} {call : Call} {c : Changed} → Change seat call c →
 same_seat (loads e) h = absurd (h refl)
 same_seat (removes e) h = absurd (h refl)
 same_seat (posts e) h = absurd (h refl)
-same_seat (refuses refusal some) h = refl
+same_seat (refuses _ some) h = refl
 
 pub refusals_change_nothing : RefusalsLaw
 refusals_change_nothing tray seat call =

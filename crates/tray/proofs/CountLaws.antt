@@ -1,8 +1,8 @@
 -- How the counts of a tray go on by one seat, for a loop over its places, and how large they get. Assumes nothing.
 use Rattle.std.specs.Prelude.{ℕ, zero, suc, ◌+◌, ◌^◌, ◌≤◌, ◌<◌, List, [], ◌∷◌, length, take, get_or, ◌≡◌}
-use mathlib.Core.Path.{refl, ap, ◌∙◌}
+use mathlib.Core.Path.{refl, sym, ap, ◌∙◌}
 use native.Mathlib.{Numerals.add-one, Omega.arith}
-use lib.{ListN.length-take, Seq.take-length}
+use lib.ListN.{length-take}
 use Rattle.tray.specs.Types.{SeatState, Vacant, Unjudged, Passed, Failed, Seat, Counts}
 use Rattle.tray.specs.{Tray.vacant_seat, Counts.Few, Counts.none, Counts.with_state, Counts.with_seat, Counts.counts_of}
 
@@ -13,9 +13,6 @@ counted tray n = counts_of (take n tray)
 pub counted_none : (tray : List Seat) → counted tray 0 ≡ none
 unfolding counts_of
 counted_none tray = refl
-
-pub counted_all : (tray : List Seat) → counted tray (length tray) ≡ counts_of tray
-counted_all tray = ap counts_of (take-length tray)
 
 -- Two seats count alike in either order.
 swapped : (c : Counts) (a b : SeatState) → with_state (with_state c a) b ≡ with_state (with_state c b) a
@@ -48,6 +45,12 @@ pub counted_more : (tray : List Seat) (n : ℕ) → n < length tray
     → counted tray (n + 1) ≡ with_seat (counted tray n) (get_or tray n vacant_seat)
 counted_more tray n h = ap (counted tray) (add-one n) ∙ one_more tray n h
 
+-- One place more, for counts that are those of the places before it.
+pub counted_on : (tray : List Seat) (n : ℕ) → n < length tray → {before after : Counts}
+    → before ≡ counted tray n → after ≡ with_seat before (get_or tray n vacant_seat) → after ≡ counted tray (n + 1)
+counted_on tray n h e f =
+    f ∙ ap (λ (c : Counts). with_seat c (get_or tray n vacant_seat)) e ∙ sym (counted_more tray n h)
+
 -- Each seat is counted once.
 abbrev pub total : Counts → ℕ
 total c = c.passed + c.failed + c.unjudged + c.vacant
@@ -69,9 +72,6 @@ pub record AtMost (n : ℕ) (c : Counts) : Type 0 where
   pub failed : c.failed ≤ n
   pub unjudged : c.unjudged ≤ n
   pub vacant : c.vacant ≤ n
-
-pub counted_few : (tray : List Seat) (n : ℕ) → AtMost (length tray) (counted tray n)
-counted_few tray n = omega (arith, all_counted (take n tray), length-take n tray)
 
 pub counted_at_most : (tray : List Seat) (n : ℕ) → AtMost n (counted tray n)
 counted_at_most tray n = omega (arith, all_counted (take n tray), length-take n tray)

@@ -11,5 +11,3 @@ pub mod NeverPasses
 pub mod History
 pub mod Joined
 pub mod Samples
-pub mod Values
-pub mod Forwarding

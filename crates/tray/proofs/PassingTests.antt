@@ -60,6 +60,11 @@ begins_more buffer expected place h l same =
     ∙ ap (λ (t : Bool). t && begins_with (drop (suc place) buffer) (drop (suc place) expected)) (eq-eqb _ _ same)
     ∙ ap (λ (n : ℕ). begins_with (drop n buffer) (drop n expected)) (sym (add-one place))
 
+-- Where a loop stands, what is left is the same question.
+pub record Rest (buffer expected : List ℕ) (place : ℕ) : Type 0 where
+  pub within : place ≤ length expected
+  pub left : begins_with (drop place buffer) (drop place expected) ≡ begins_with buffer expected
+
 -- The test of a post, by the first thing that fails it. The pass's number was asked of the verdict.
 module _ (answer : Answer) (buffer expected : List ℕ) {twenty : ℕ} (is-20 : twenty ≡ 20) where
   by_tests : (t u : Bool) → eqb answer.number 20 ≡ t → eqb answer.count (length expected) ≡ u

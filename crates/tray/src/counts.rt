@@ -4,7 +4,7 @@ ghost use Rattle.tray.specs.Counts.{with_seat, counts_of, Few};
 
 use crate::seat::{Seat, SeatState};
 
-#[derive(Drop)]
+#[derive(Clone, Copy)]
 pub struct Counts {
     pub passed: usize,
     pub failed: usize,

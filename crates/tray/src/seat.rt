@@ -5,7 +5,7 @@ ghost use Rattle.tray.specs.Seats.{in_use, becomes, stays, posted, changed};
 use answer::Refusal;
 
 // Document 02: "A seat is vacant, unjudged, passed or failed."
-#[derive(Drop)]
+#[derive(Clone, Copy)]
 pub enum SeatState {
     Vacant,
     Unjudged,
@@ -13,13 +13,13 @@ pub enum SeatState {
     Failed,
 }
 
-#[derive(Drop)]
+#[derive(Clone, Copy)]
 pub struct Seat {
     pub state: SeatState,
 }
 
 // What is asked of a seat. Of a post only matters whether it passes.
-#[derive(Drop)]
+#[derive(Clone, Copy)]
 pub enum Call {
     Load,
     Remove,
@@ -27,7 +27,7 @@ pub enum Call {
 }
 
 // A seat after a call, and what the call answers.
-#[derive(Drop)]
+#[derive(Clone, Copy)]
 pub struct Changed {
     pub seat: Seat,
     pub answer: u8,
