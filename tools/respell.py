@@ -31,6 +31,10 @@ CHOSEN = {
     "ledger-room": "ledger_room_lent",
     "is-past": "is_past_stage",
     "is-decided": "is_decided_stage",
+    "receiver-pulls": "receiver_pulling",
+    "sender-pulls": "sender_pulling",
+    "some-in-use": "some_used",
+    "all-passed": "all_used_passed",
     "sameText": "is_same_text",
 }
 

@@ -140,8 +140,8 @@ command80_keeps after =
 pub free_after_finish : FreeAfterFinish
 free_after_finish =
     record {
-      receiver_pulls_lem = explains80 command_limits (command80 receiver_after) _ (command80_keeps receiver_after) refl refl;
-      sender_pulls_lem = explains80 command_limits (command80 receiver_after) _ (command80_keeps sender_after) refl refl;
+      receiver_pulling = explains80 command_limits (command80 receiver_after) _ (command80_keeps receiver_after) refl refl;
+      sender_pulling = explains80 command_limits (command80 receiver_after) _ (command80_keeps sender_after) refl refl;
     }
 
 -- Tick 0 has ATN pulled or released, or is marked, and one of the entries stops there.

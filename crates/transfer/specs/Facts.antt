@@ -79,8 +79,8 @@ abbrev pub sender_after : Free
 sender_after = record { clk = true; sender = true; receiver = false }
 
 pub record FreeAfterFinish : Type 0 where
-  pub receiver_pulls_lem : Explains80 command_limits (command80 receiver_after) (command80 receiver_after)
-  pub sender_pulls_lem : Explains80 command_limits (command80 receiver_after) (command80 sender_after)
+  pub receiver_pulling : Explains80 command_limits (command80 receiver_after) (command80 receiver_after)
+  pub sender_pulling : Explains80 command_limits (command80 receiver_after) (command80 sender_after)
 
 -- ATN in a tick list that a pair gives: "released throughout"; for commands "pulled until the finish and released from it on", and "the
 -- finish is in the recording".

@@ -161,4 +161,4 @@ passed_last [] seat e = absurd (false≢true (sym (none_passed seats seat) ∙ a
 passed_last (request ∷ earlier) seat e = passed_next seat request earlier (passed_last earlier seat) e
 
 pub sealed_law : SealedLaw
-sealed_law requests e seat used = passed_last requests seat (((sealing_law (tray_after requests)).0 e).all_passed_lem seat used)
+sealed_law requests e seat used = passed_last requests seat (((sealing_law (tray_after requests)).0 e).all_used_passed seat used)

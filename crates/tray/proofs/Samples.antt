@@ -49,7 +49,7 @@ seals_hold =
     record {
       vacant_tray = refl;
       one_passed = refl;
-      all_passed_lem = refl;
+      all_used_passed = refl;
       one_unjudged = refl;
       one_failed = refl;
       none_passed = refl;

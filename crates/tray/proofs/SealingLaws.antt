@@ -77,11 +77,11 @@ used_passed Failed = (λ e u. absurd (false≢true e), λ h. ap has_passed (h re
 abbrev OnlyPassed : List Seat → Type 0
 OnlyPassed tray = (seat : ℕ) → in_use (seat_at tray seat) ≡ true → (seat_at tray seat).state ≡ Passed
 
-all_passed_lem : (tray : List Seat) → all_passed tray ≡ true → OnlyPassed tray
+all_used_passed : (tray : List Seat) → all_passed tray ≡ true → OnlyPassed tray
 unfolding all_passed
-all_passed_lem [] e seat u = absurd (false≢true u)
-all_passed_lem (first ∷ tray) e zero u = (used_passed first.state).0 ((and-eq-true_iff (passes first) (all_passed tray)).0 e).0 u
-all_passed_lem (first ∷ tray) e (suc seat) u = all_passed_lem tray ((and-eq-true_iff (passes first) (all_passed tray)).0 e).1 seat u
+all_used_passed [] e seat u = absurd (false≢true u)
+all_used_passed (first ∷ tray) e zero u = (used_passed first.state).0 ((and-eq-true_iff (passes first) (all_passed tray)).0 e).0 u
+all_used_passed (first ∷ tray) e (suc seat) u = all_used_passed tray ((and-eq-true_iff (passes first) (all_passed tray)).0 e).1 seat u
 
 all_pass : (tray : List Seat) → OnlyPassed tray → all_passed tray ≡ true
 unfolding all_passed
@@ -127,8 +127,8 @@ sealing_law tray = (
       record {
         forty = eqb-true (length tray) seats (not-false (eqb (length tray) seats) so.0);
         used = some.place;
-        some_in_use_lem = some.used;
-        all_passed_lem = all_passed_lem tray so.2;
+        some_used = some.used;
+        all_used_passed = all_used_passed tray so.2;
       },
-  λ s. rw (eq-eqb (length tray) seats s.forty, is_used_lem tray s.used s.some_in_use_lem, all_pass tray s.all_passed_lem),
+  λ s. rw (eq-eqb (length tray) seats s.forty, is_used_lem tray s.used s.some_used, all_pass tray s.all_used_passed),
 )

@@ -63,8 +63,8 @@ RefusedLaw = (refusal : Refusal) → NeverPasses (refusal_number refusal)
 pub record Sealable (tray : List Seat) : Type 0 where
   pub forty : length tray ≡ seats
   pub used : ℕ
-  pub some_in_use_lem : in_use (seat_at tray used) ≡ true
-  pub all_passed_lem : (seat : ℕ) → in_use (seat_at tray seat) ≡ true → (seat_at tray seat).state ≡ Passed
+  pub some_used : in_use (seat_at tray used) ≡ true
+  pub all_used_passed : (seat : ℕ) → in_use (seat_at tray seat) ≡ true → (seat_at tray seat).state ≡ Passed
 
 abbrev pub SealingLaw : Type 0
 SealingLaw = (tray : List Seat) → (sealing tray ≡ 1) ↔ Sealable tray

@@ -55,7 +55,7 @@ pub record PostSamples : Type 0 where
 pub record SealSamples : Type 0 where
   pub vacant_tray : sealing (all 40 Vacant) ≡ 0
   pub one_passed : sealing (first Passed) ≡ 1
-  pub all_passed_lem : sealing (all 40 Passed) ≡ 1
+  pub all_used_passed : sealing (all 40 Passed) ≡ 1
   pub one_unjudged : sealing (all 39 Passed ++ all 1 Unjudged) ≡ 0
   pub one_failed : sealing (all 39 Passed ++ all 1 Failed) ≡ 0
   pub none_passed : sealing (first Unjudged) ≡ 0
