@@ -7,7 +7,7 @@ use mathlib.Core.Path.{refl, ap, ap₂}
 use borrow.Author.Tests.{eqb-true, eqb-false}
 use Rattle.recording.specs.GoodForm.{Bytes}
 use Rattle.transfer.specs.Pair.{values}
-use Rattle.transfer.specs.Parties.{Bit, Frame, Sending, more, last, Plan, value_of, sending_bytes}
+use Rattle.transfer.specs.Parties.{Bit, Frame, Sending, more, last, Plan, value_of, after_frame, sending_bytes}
 use Rattle.writer.specs.declared.card.Card.{Card}
 
 -- The lowest bit of a value; pulled is one.
@@ -60,4 +60,5 @@ module _ (card : Card) where
       → first ∷ others ≡ values (sending_bytes now (sending_of first others))
   sends_string now first [] bytes = ap (λ (value : ℕ). value ∷ []) (byte_value first (bytes 0))
   sends_string now first (second ∷ others) bytes =
-      ap₂ (λ (value : ℕ) rest. value ∷ rest) (byte_value first (bytes 0)) (sends_string _ second others (λ at. bytes (suc at)))
+      let ends : ℕ = after_frame (now + card.gap) (frame_of first) + card.ready_to_send in
+      ap₂ (λ (value : ℕ) rest. value ∷ rest) (byte_value first (bytes 0)) (sends_string ends second others (λ at. bytes (suc at)))

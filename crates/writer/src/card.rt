@@ -3,7 +3,7 @@ ghost use Rattle.std.specs.Prelude.{◌≡◌};
 ghost use Rattle.writer.specs.Card.{standard_card};
 
 // Each duration in ticks, named once. (c,d) is CLK=c, DATA=d.
-#[derive(Drop)]
+#[derive(Clone, Copy)]
 pub struct Card {
     // Both parties hold their lines: (1,1).
     pub hold: u16,

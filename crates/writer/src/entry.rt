@@ -41,7 +41,7 @@ fn written_length(bytes: usize) -> usize
 // The header, and the steps after it.
 fn put_recording(bytes: &[u8], destination: &mut [u8], card: Card)
     requires { (length bytes.now ≤ most_bytes) × (written_length (length bytes.now) ≤ length destination.old) }
-    ensures { destination.new ≡ recording_of card bytes.now over (λ x. x.now) destination.entry }
+    ensures { destination.new ≡ recording_of card bytes.now over destination.old }
 {
     let steps = string::step_count(bytes.len());
     let total = ticks::total_ticks(card, bytes.len() as u32);
