@@ -15,7 +15,7 @@ use answer::Answer;
 
 // An answer as it crosses the border: four numbers of 32 bits, in this order.
 #[repr(C)]
-#[derive(Drop)]
+#[derive(Clone, Copy)]
 pub struct StationAnswer {
     pub number: u32,
     pub tick: u32,
@@ -68,7 +68,7 @@ pub extern "C" fn station_write(bytes: &[u8], destination: &mut [u8]) -> Station
 
 // A number's word as it crosses: its characters and then zeros, one at least.
 #[repr(C)]
-#[derive(Drop)]
+#[derive(Clone, Copy)]
 pub struct StationWord {
     pub text: [u8; 32],
 }
