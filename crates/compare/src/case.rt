@@ -1,7 +1,7 @@
 // One case of the comparison: what class it is of, how its recording is judged, and what must come of it.
 use crate::entry::Entry;
 use crate::made::draft;
-use crate::made::transfer::Sent;
+use crate::made::transfers::Sent;
 use second_judge::Finding;
 
 // How long the two buffers are, more than is asked for.
@@ -9,7 +9,7 @@ pub(crate) const BYTES: usize = 1200;
 
 pub(crate) const LEDGER: usize = 2400;
 
-#[derive(Drop)]
+#[derive(Clone, Copy)]
 pub(crate) struct Case {
     // The class's name, and how many cases it has.
     pub class: [u8; 10],
@@ -55,7 +55,7 @@ pub(crate) const ANY: u32 = 0xFFFF_FFFF;
 
 // What must come of a recording besides the same from both judges: a number, a tick and, unless the count is 0, just
 // these bytes, with no ledger tick later than these.
-#[derive(Drop)]
+#[derive(Clone, Copy)]
 pub(crate) struct Required {
     pub number: u32,
     pub tick: u32,

@@ -17,6 +17,8 @@ use crate::compared::{Tally, compare};
 use crate::entry::Entry;
 use crate::made::draft;
 use crate::output::print_class;
+use std::io;
+use std::io::Write;
 
 // There are so many classes, numbered in the order in which they are compared and printed: the written ones, then those of
 // data, and then those of commands.
@@ -69,26 +71,31 @@ fn put_made(entry: Entry, class: u32, number: u32, file: &mut [u8]) -> Case {
     crossed::put(entry, number, file)
 }
 
-pub(crate) fn compare_classes(file: &mut [u8]) -> Tally {
+pub(crate) fn compare_classes<W: Write>(out: &mut W, file: &mut [u8]) -> io::Result<Tally> {
     let mut tally = Tally::NONE;
     let mut class: u32 = 0;
     while class < ALL {
-        tally = compare_class(class, file, tally);
+        tally = compare_class(out, class, file, tally)?;
         class += 1;
     }
-    tally
+    Ok(tally)
 }
 
 // The first case says how many there are.
-fn compare_class(class: u32, file: &mut [u8], before: Tally) -> Tally {
+fn compare_class<W: Write>(
+    out: &mut W,
+    class: u32,
+    file: &mut [u8],
+    before: Tally,
+) -> io::Result<Tally> {
     let first = put_case(class, 0, file);
     let mut tally = before;
     let mut number: u32 = 0;
     while number < first.cases {
         let case = put_case(class, number, file);
-        tally = compare(draft::part(file, case.length), number, case, tally);
+        tally = compare(out, draft::part(file, case.length), number, case, tally)?;
         number += 1;
     }
-    print_class(first, before, tally);
-    tally
+    print_class(out, first, before, tally)?;
+    Ok(tally)
 }

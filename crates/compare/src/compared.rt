@@ -6,9 +6,11 @@ use crate::entry::Entry;
 use crate::output;
 use answer::Answer;
 use second_judge::Finding;
+use std::io;
+use std::io::Write;
 
 // What is counted: the recordings with each number as the answer, for data and then for commands, and the differences.
-#[derive(Drop)]
+#[derive(Clone, Copy)]
 pub(crate) struct Tally {
     pub numbers: [u32; 128],
     pub differences: u32,
@@ -49,7 +51,7 @@ impl Tally {
 }
 
 // What the two judges gave.
-#[derive(Drop)]
+#[derive(Clone, Copy)]
 pub(crate) struct Outcome {
     pub first: Finding,
     pub second: Finding,
@@ -157,18 +159,24 @@ fn first_other(
 const MOST_SHOWN: u32 = 8;
 
 // Answers and both buffers whole must be the same, and what is required. Counts the recording.
-pub(crate) fn compare(file: &[u8], number: u32, case: Case, tally: Tally) -> Tally {
+pub(crate) fn compare<W: Write>(
+    out: &mut W,
+    file: &[u8],
+    number: u32,
+    case: Case,
+    tally: Tally,
+) -> io::Result<Tally> {
     let outcome = judge_by_both(file, case);
     let first = outcome.first;
     let title = case.title;
     let entry = case.entry;
-    output::print_titled(title, outcome);
+    output::print_titled(out, title, outcome)?;
     let counted = tally.count(entry, first.number);
     if outcome.is_good() {
-        return counted;
+        return Ok(counted);
     }
     if counted.differences < MOST_SHOWN {
-        output::print_difference(file, number, case, outcome);
+        output::print_difference(out, file, number, case, outcome)?;
     }
-    counted.differ()
+    Ok(counted.differ())
 }

@@ -1,7 +1,7 @@
 // Which entry a recording is made for, and which it is handed to: for data or for commands. It travels as a value.
 use crate::made::draft;
 
-#[derive(Drop)]
+#[derive(Clone, Copy)]
 pub(crate) enum Entry {
     Plain,
     Command,

@@ -2,4 +2,4 @@
 pub(crate) mod draft;
 pub(crate) mod manner;
 pub(crate) mod pieces;
-pub(crate) mod transfer;
+pub(crate) mod transfers;

@@ -30,7 +30,7 @@ mod trying;
 use entry::Entry;
 
 // "An answer is a number, a tick, a step and a count."
-#[derive(Drop)]
+#[derive(Clone, Copy)]
 pub struct Finding {
     pub number: u32,
     pub tick: u32,

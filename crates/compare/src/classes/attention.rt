@@ -3,7 +3,7 @@
 use crate::case::{Case, Required};
 use crate::entry::Entry;
 use crate::made::manner::Manner;
-use crate::made::transfer::Transfer;
+use crate::made::transfers::Transfer;
 
 // How many ticks a base has, of either entry, with such holds.
 const TICKS: u32 = 5761;

@@ -1,7 +1,7 @@
 // Carried and open handovers at each offset, and holds of each length, in each byte of the base.
 use crate::case::Case;
 use crate::entry::Entry;
-use crate::made::transfer::{Sent, Transfer};
+use crate::made::transfers::{Sent, Transfer};
 
 const KINDS: u32 = 10;
 
@@ -10,7 +10,7 @@ const OFFSETS: u32 = 110;
 const BYTES: u32 = 4;
 
 // The byte; whether it is let go at the offset; its take and its hold, each a number and whether the offset is added.
-#[derive(Drop)]
+#[derive(Clone, Copy)]
 struct Kind(u8, u32, u32, u32, u32, u32);
 
 const IT: u32 = 0xFFFF_FFFF;

@@ -4,7 +4,7 @@
 use crate::case::Case;
 use crate::entry::Entry;
 use crate::made::draft;
-use crate::made::transfer::Transfer;
+use crate::made::transfers::Transfer;
 
 // Each value of the line bits, each duration, and each step.
 const LINES: u32 = 16;

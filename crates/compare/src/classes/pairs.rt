@@ -3,7 +3,7 @@
 use crate::case::Case;
 use crate::entry::Entry;
 use crate::made::manner::Manner;
-use crate::made::transfer::Transfer;
+use crate::made::transfers::Transfer;
 
 pub(crate) fn put(entry: Entry, number: u32, file: &mut [u8]) -> Case {
     let required = drawn(entry, Manner::NEVER, number).put(file);

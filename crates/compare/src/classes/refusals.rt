@@ -9,7 +9,7 @@ const CHANGES: u32 = 32;
 const ROOMS: u32 = 5;
 
 // The place, the word that is put there, and the file's true length.
-#[derive(Drop)]
+#[derive(Clone, Copy)]
 struct Change(usize, u32, usize);
 
 const ALL: [Change; 32] = [

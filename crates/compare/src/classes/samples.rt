@@ -3,7 +3,7 @@ use crate::case::{ANY, Case, Required};
 use crate::entry::Entry;
 use crate::made::draft;
 use crate::made::manner::Manner;
-use crate::made::transfer::Transfer;
+use crate::made::transfers::Transfer;
 
 // What a sample is before a step of it is changed: no steps; 256 ticks (1,0); written from no bytes; S1, written from
 // 0x41, and with SRQ set everywhere; the byte 0x80 without its step 30:2.
@@ -23,7 +23,7 @@ const CARRIED: u32 = 5;
 const NEW: u32 = 65_535;
 
 // The title, what it begins as, the step that is changed, its duration and lines, and the verdict and its tick.
-#[derive(Drop)]
+#[derive(Clone, Copy)]
 struct Sample([u8; 24], u32, u32, u32, u8, u32, u32);
 
 const SAMPLES: [Sample; 20] = [

@@ -2,7 +2,7 @@
 // The generator is fixed, so that each run draws the same.
 use crate::made::draft;
 
-#[derive(Drop)]
+#[derive(Clone, Copy)]
 pub(crate) struct Manner {
     // The generator's latest state; 0 where nothing is drawn, and then it stays so.
     pub state: u64,

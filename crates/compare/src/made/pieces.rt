@@ -5,7 +5,7 @@ use crate::made::manner::Manner;
 
 // The writer's time; the least and the most ticks that the two parties' own rules allow, where they give no end some
 // number; and the lines.
-#[derive(Drop)]
+#[derive(Clone, Copy)]
 struct Stretch(u32, u32, u32, u8);
 
 impl Stretch {

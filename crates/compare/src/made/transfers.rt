@@ -6,7 +6,7 @@ use crate::made::pieces::put_ticks;
 use crate::made::{draft, pieces};
 
 // A byte, and how it is handed over.
-#[derive(Drop)]
+#[derive(Clone, Copy)]
 pub(crate) struct Sent {
     pub value: u8,
     // If bit 8 is one the sender lets go of DATA, and the receiver takes it, so many ticks after the CLK pull after it.
@@ -52,7 +52,7 @@ const LETTING_GO: [u32; 4] = [0, 0, 1, 40];
 
 const TAKES: [u32; 4] = [30, 30, 1, 70];
 
-#[derive(Drop)]
+#[derive(Clone, Copy)]
 pub(crate) struct Transfer {
     pub manner: Manner,
     // The entry that it is made for.
@@ -68,7 +68,7 @@ pub(crate) struct Transfer {
 }
 
 // What was put down so far: the manner for what comes next, and what must come of it.
-#[derive(Drop)]
+#[derive(Clone, Copy)]
 struct Put {
     manner: Manner,
     required: Required,
