@@ -6,7 +6,7 @@
  *
  * Exit status: 0 only for 20; 1 for another number; 2 for usage, a file that cannot be read or an answer that could not be printed.
  *
- * Built from the repository's root, once `rt staticlib station` has made the library:
+ * Built from the repository's root, once `scripts/build` has made the library:
  *
  *     cc -std=c99 -Wall -Wextra -Werror -pedantic -Iinclude examples/judge_file.c target/staticlib/libstation.a -o judge_file
  */

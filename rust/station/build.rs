@@ -28,19 +28,31 @@ fn root() -> PathBuf {
     }
 }
 
-/// Tells Cargo what the archive is made from: the Rattle crates. `rt` itself knows which of them it takes. The paths go from
-/// this crate, so that in a copy of the repository they are the copy's.
-fn rerun_if_changed() {
-    for source in ["build.rs", "../../crates.txt", "../../crates"] {
+/// Tells Cargo what the archive is made from: the Rattle crates, but for what `rt` makes in their folders. `rt` itself knows
+/// which of them it takes. The paths go from this crate, so that in a copy of the repository they are the copy's.
+fn rerun_if_changed(root: &Path) {
+    for source in ["build.rs", "../../crates.txt"] {
         println!("cargo:rerun-if-changed={source}");
+    }
+    let crates = match std::fs::read_dir(root.join("crates")) {
+        Ok(crates) => crates,
+        Err(error) => fail(&format!("the Rattle crates could not be listed: {error}")),
+    };
+    for name in crates.flatten().map(|it| it.file_name()) {
+        for part in ["src", "specs", "proofs"] {
+            let source = Path::new("../../crates").join(&name).join(part);
+            if source.is_dir() {
+                println!("cargo:rerun-if-changed={}", source.display());
+            }
+        }
     }
 }
 
-/// Runs `rt staticlib station` at the root. What it prints is shown only if it fails.
+/// Runs `rt lib` in the folder of the crate `station`. What it prints is shown only if it fails.
 fn prove(root: &Path) {
     let run = Command::new("rt")
-        .args(["staticlib", "station"])
-        .current_dir(root)
+        .arg("lib")
+        .current_dir(root.join("crates/station"))
         .output();
     match run {
         Ok(output) if output.status.success() => {}
@@ -55,17 +67,17 @@ fn prove(root: &Path) {
 /// What to say when `rt` ran and did not succeed, with all that it printed.
 fn not_proved(output: &Output) -> String {
     format!(
-        "the library was not proved, so it is not linked: `rt staticlib station` ended with {}\n{}{}",
+        "the library was not proved, so it is not linked: `rt lib` ended with {}\n{}{}",
         output.status,
         String::from_utf8_lossy(&output.stdout),
         String::from_utf8_lossy(&output.stderr)
     )
 }
 
-/// Copies the archive into Cargo's own folder and links the copy, so that a later `rt ci`, which removes target/, takes
-/// nothing away from a program that is being linked.
+/// Copies the archive into Cargo's own folder and links the copy, so that a later `rt`, which makes it anew, takes nothing away
+/// from a program that is being linked.
 fn link(root: &Path) {
-    let made = root.join("target/staticlib/libstation.a");
+    let made = root.join("crates/station/out/libstation.a");
     let folder = PathBuf::from(told("OUT_DIR"));
     if let Err(error) = std::fs::copy(&made, folder.join("libstation.a")) {
         fail(&format!("{} could not be copied: {error}", made.display()));
@@ -81,5 +93,5 @@ fn main() {
     let root = root();
     prove(&root);
     link(&root);
-    rerun_if_changed();
+    rerun_if_changed(&root);
 }

@@ -39,7 +39,7 @@
 //!
 //! # What is proved, and what is not
 //!
-//! The library behind this crate is proved before it is linked: the build runs `rt staticlib station` and fails if the
+//! The library behind this crate is proved before it is linked: the build runs `rt lib` in its folder and fails if the
 //! proof does. What is not proved is the crossing: that the four functions are declared here as they were built. It is
 //! one small module, the only one with `unsafe` code, and it is tried on a million recordings against another judge
 //! (`cargo run --release -p trials --bin differential`).
