@@ -35,6 +35,7 @@ CHOSEN = {
     "sender-pulls": "sender_pulling",
     "some-in-use": "some_used",
     "all-passed": "all_used_passed",
+    "total-ticks": "total_ticks",
     "sameText": "is_same_text",
 }
 
