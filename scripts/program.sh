@@ -56,23 +56,53 @@ is_ready() {
     stamp=$(sources_sum) && stamp="$stamp $(built_sum)" && [ "$stamp" = "$(cat "$ready/stamp" 2>/dev/null)" ]
 }
 
-sources_sum() { sum_of crates.txt crates; }
+# What the toolchain makes in the crates' folders is no source.
+sources_sum() { sum_of crates.txt crates -path 'crates/*/out' -prune -o; }
 # shellcheck disable=SC2046,SC2086 # a command is a word
 built_sum() { sum_of $(printf 'target/bin/%s_file ' $commands) target/staticlib/libstation.a; }
 
-# One checksum of all these files, by their names and contents; none if any can't be read.
+# One checksum of all files that find finds so, by their names and contents; none if any can't be read.
 sum_of() {
     sums=$(cd "$root" && find "$@" -type f -exec cksum {} + 2>/dev/null) && sums=$(printf '%s\n' "$sums" | sort) &&
         printf '%s\n' "$sums" | cksum
 }
 
+# A program opens a file only by a name in UTF-8. For each argument that may be none, link_arguments makes a link to what it names: the link
+# is called by the argument's place, and stands in a folder that the program knows by STATION_LINKS. Where no link can be made, the program
+# says that it can't open the file. drop_links takes the links away.
+links=''
+cleans_up=''
+unset STATION_LINKS
+link_arguments() {
+    place=0
+    for named in "$@"; do
+        place=$((place + 1))
+        case $named in *[!\ -~]*) ;; *) continue ;; esac
+        case $named in /*) ;; *) named=$PWD/$named ;; esac
+        [ -n "$links" ] || make_links || return 0
+        ln -s -- "$named" "$links/$place" 2>/dev/null
+    done
+}
+make_links() {
+    links=$(mktemp -d 2>/dev/null) || { links='' && return 1; }
+    [ -n "$cleans_up" ] || trap drop_links EXIT
+    export STATION_LINKS="$links"
+}
+drop_links() {
+    [ -z "$links" ] || rm -rf "$links" 2>/dev/null
+    links=''
+    unset STATION_LINKS
+}
+
 # Asks the program; what it printed is then in `text`, and how it ended in `status`. Its standard error goes on, and what the shell itself
 # says of a program that breaks does not.
 ask() {
+    link_arguments "$@"
     {
         text=$("$program" "$@" 2>&3 3>&-)
         status=$?
     } 3>&2 2>/dev/null
+    drop_links
 }
 
 # Whether a program's text is whole: it ended well, and the last line is `end`. That line is then taken off `text`.

@@ -22,11 +22,13 @@ clean_up() {
     [ -z "$child" ] || { kill "$child" && wait "$child"; } 2>/dev/null
     [ -z "$folder" ] || rm -rf "$folder" 2>/dev/null
     child='' folder=''
+    drop_links
 }
 
 # From here on nothing is left behind at the end, nor by a signal, which is acted on only while the shell waits for a program in the
 # background.
 clean_up_at_the_end() {
+    cleans_up=yes
     trap clean_up EXIT
     trap 'exit 2' HUP INT QUIT TERM
 }
@@ -43,10 +45,12 @@ make_folder() {
 # Asks the program as `ask` does, but in the background, so its answer is kept in the folder too. Descriptor 9 is a lock of this shell's,
 # where there is one, and would stay locked by a program that outlives it.
 ask_in_background() {
+    link_arguments "$@"
     { "$program" "$@" <&3 >"$folder/answer" 2>&4 3<&- 4>&- 9<&- & } 3<&0 4>&2 2>/dev/null
     child=$!
     wait "$child" 2>/dev/null
     status=$? child=''
+    drop_links
     text=$(cat "$folder/answer" 2>/dev/null)
 }
 

@@ -1,13 +1,18 @@
 // The recording that a program is asked about: the file that an argument names, or standard input.
 ghost use Rattle.std.specs.Prelude.{◌≤◌, length, ◌≡◌};
-ghost use Rattle.io.specs.Counts.{IsPrefixLen};
+ghost use Rattle.files.specs.Counts.{IsPrefixLen};
 
 use crate::input::read_input;
+use crate::opening::open;
 use crate::paths::hide_controls;
-use libc::STDIN_FILENO;
+use crate::reasons::{fail, too_long};
+use std::env::FillError;
+use std::io;
+use std::io::{Input, Print, Read};
+use std::rt::{Env, Files};
 
 // How much of the lent name and of the lent room is filled. Where the source could not be read, the reason was told on standard error.
-#[derive(Drop)]
+#[derive(Clone, Copy)]
 pub struct Source {
     pub name_length: usize,
     pub length: usize,
@@ -16,26 +21,26 @@ pub struct Source {
 
 // Puts the source's name, fit to be printed, in `name` and its bytes in `room`, as many as there is room for. The argument of this place
 // names a file; without it the source is standard input.
-pub fn read_source(place: usize, name: &mut [u8], room: &mut [u8]) -> Source
+pub fn read_source<R: Env + Files + Input, E: Print>(
+    rt: &R,
+    errors: &E,
+    place: usize,
+    name: &mut [u8],
+    room: &mut [u8],
+) -> Source
     ensures { IsPrefixLen result.name_length name.new × IsPrefixLen result.length room.new }
 {
-    if os::arg_count() <= place {
-        let length = name_input(name);
-        return read_descriptor(STDIN_FILENO, name, length, room);
+    match rt.arg(place, name) {
+        Ok(given) => read_file(rt, errors, place, name, given, room),
+        Err(FillError::NotPresent) => {
+            let length = name_input(name);
+            read_named(&mut rt.reader(), errors, name, length, room)
+        }
+        Err(FillError::TooLong) => {
+            hide_controls(name);
+            unreadable(errors, name, name.len(), too_long())
+        }
     }
-    let given = os::arg(place, name);
-    if os::errno() != 0 {
-        hide_controls(name);
-        return unreadable(name, name.len());
-    }
-    let descriptor = os::open_read(&name[..given]);
-    hide_controls(name);
-    if descriptor < 0 {
-        return unreadable(name, given);
-    }
-    let source = read_descriptor(descriptor, name, given, room);
-    libc::close(descriptor);
-    source
 }
 
 // Standard input is called `-`.
@@ -49,26 +54,51 @@ fn name_input(name: &mut [u8]) -> usize
     1
 }
 
-fn read_descriptor(descriptor: i32, name: &[u8], name_length: usize, room: &mut [u8]) -> Source
-    requires { name_length ≤ length name.now }
+fn read_file<R: Env + Files, E: Print>(
+    rt: &R,
+    errors: &E,
+    place: usize,
+    name: &mut [u8],
+    name_length: usize,
+    room: &mut [u8],
+) -> Source
+    requires { name_length ≤ length name.old }
     ensures { (result.name_length ≡ name_length) × (result.length ≤ length room.new) }
 {
-    let input = read_input(descriptor, room);
-    if input.is_broken {
-        return unreadable(name, name_length);
-    }
-    Source {
-        name_length,
-        length: input.length,
-        is_read: true,
+    let opened = open(rt, place, &name[..name_length]);
+    hide_controls(name);
+    match opened {
+        Ok(mut file) => read_named(&mut file, errors, name, name_length, room),
+        Err(error) => unreadable(errors, name, name_length, error),
     }
 }
 
-fn unreadable(name: &[u8], name_length: usize) -> Source
+fn read_named<I: Read, E: Print>(
+    reader: &mut I,
+    errors: &E,
+    name: &[u8],
+    name_length: usize,
+    room: &mut [u8],
+) -> Source
+    requires { name_length ≤ length name.now }
+    ensures { (result.name_length ≡ name_length) × (result.length ≤ length room.new) }
+{
+    let input = read_input(reader, room);
+    match input.reason {
+        Some(error) => unreadable(errors, name, name_length, error),
+        None => Source {
+            name_length,
+            length: input.length,
+            is_read: true,
+        },
+    }
+}
+
+fn unreadable<E: Print>(errors: &E, name: &[u8], name_length: usize, error: io::Error) -> Source
     requires { name_length ≤ length name.now }
     ensures { (result.name_length ≡ name_length) × (result.length ≡ 0) }
 {
-    os::fail(&name[..name_length]);
+    fail(errors, &name[..name_length], error);
     Source {
         name_length,
         length: 0,

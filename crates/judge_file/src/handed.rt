@@ -1,14 +1,14 @@
 // The bytes that were handed over, their ledger ticks and, of commands, their classes, as text.
-use libc::STDOUT_FILENO;
+use std::io::Print;
 
 // What is recorded.
-#[derive(Drop)]
+#[derive(Clone, Copy)]
 pub enum Transfer {
     Data,
     Command,
 }
 
-#[derive(Drop)]
+#[derive(Clone, Copy)]
 enum Line {
     Bytes,
     Ledger,
@@ -17,68 +17,78 @@ enum Line {
 
 // A line of the bytes, one of their ticks and, of commands, one of their classes, or nothing where no byte was handed over. Answers whether
 // all of it was written.
-pub fn print_handed(transfer: Transfer, count: usize, bytes: &[u8], ledger: &[u32]) -> bool {
+pub fn print_handed<P: Print>(
+    to: &P,
+    transfer: Transfer,
+    count: usize,
+    bytes: &[u8],
+    ledger: &[u32],
+) -> bool {
     if count == 0 {
         return true;
     }
-    let is_printed = print_line(Line::Bytes, count, bytes, ledger)
-        && print_line(Line::Ledger, count, bytes, ledger);
+    let is_printed = print_line(to, Line::Bytes, count, bytes, ledger)
+        && print_line(to, Line::Ledger, count, bytes, ledger);
     match transfer {
         Transfer::Data => is_printed,
-        Transfer::Command => is_printed && print_line(Line::Classes, count, bytes, ledger),
+        Transfer::Command => is_printed && print_line(to, Line::Classes, count, bytes, ledger),
     }
 }
 
-fn print_line(line: Line, count: usize, bytes: &[u8], ledger: &[u32]) -> bool {
-    if !print_heading(line) {
+fn print_line<P: Print>(to: &P, line: Line, count: usize, bytes: &[u8], ledger: &[u32]) -> bool {
+    if !print_heading(to, line) {
         return false;
     }
     let mut place: usize = 0;
     while place < count {
-        if !print_place(line, place, bytes, ledger) {
+        if !print_place(to, line, place, bytes, ledger) {
             return false;
         }
         place += 1;
     }
-    io::write_all(STDOUT_FILENO, b"\n")
+    print(to, b"\n")
 }
 
-fn print_heading(line: Line) -> bool {
+fn print_heading<P: Print>(to: &P, line: Line) -> bool {
     match line {
-        Line::Bytes => io::write_all(STDOUT_FILENO, b"bytes"),
-        Line::Ledger => io::write_all(STDOUT_FILENO, b"ledger"),
-        Line::Classes => io::write_all(STDOUT_FILENO, b"classes"),
+        Line::Bytes => print(to, b"bytes"),
+        Line::Ledger => print(to, b"ledger"),
+        Line::Classes => print(to, b"classes"),
     }
 }
 
-fn print_place(line: Line, place: usize, bytes: &[u8], ledger: &[u32]) -> bool {
+fn print_place<P: Print>(to: &P, line: Line, place: usize, bytes: &[u8], ledger: &[u32]) -> bool {
     match line {
-        Line::Bytes => place < bytes.len() && print_byte(bytes[place]),
-        Line::Ledger => print_ticks(ledger, place),
-        Line::Classes => place < bytes.len() && print_class(bytes[place]),
+        Line::Bytes => place < bytes.len() && print_byte(to, bytes[place]),
+        Line::Ledger => print_ticks(to, ledger, place),
+        Line::Classes => place < bytes.len() && print_class(to, bytes[place]),
     }
 }
 
 // In hexadecimal, two digits.
-fn print_byte(byte: u8) -> bool {
-    io::write_all(STDOUT_FILENO, b" ") && io::print_hex(STDOUT_FILENO, byte as u64, 2)
+fn print_byte<P: Print>(to: &P, byte: u8) -> bool {
+    print(to, b" ") && print!(to; "{byte:02x}").is_ok()
 }
 
 // In a word.
-fn print_class(byte: u8) -> bool {
+fn print_class<P: Print>(to: &P, byte: u8) -> bool {
     let word = command::class_of(byte).word();
-    io::write_all(STDOUT_FILENO, b" ") && files::print_word(STDOUT_FILENO, word)
+    print(to, b" ") && files::print_word(to, word)
 }
 
-fn print_ticks(ledger: &[u32], place: usize) -> bool {
+fn print_ticks<P: Print>(to: &P, ledger: &[u32], place: usize) -> bool {
     if ledger.len() / 2 <= place {
         return false;
     }
     let let_go = ledger[2 * place];
     let take = ledger[2 * place + 1];
-    print_tick(let_go) && print_tick(take)
+    print_tick(to, let_go) && print_tick(to, take)
 }
 
-fn print_tick(tick: u32) -> bool {
-    io::write_all(STDOUT_FILENO, b" ") && io::print_decimal(STDOUT_FILENO, tick as u64)
+fn print_tick<P: Print>(to: &P, tick: u32) -> bool {
+    print(to, b" ") && to.print(tick).is_ok()
+}
+
+fn print<P: Print>(to: &P, text: &[u8]) -> bool {
+    to.write_all(text).is_ok()
 }

@@ -1,6 +1,4 @@
 -- What the proofs of several functions use, and what holds of files that are longer than their room.
-mod Lent
-mod Lender
 mod FillLaws
 mod TextLaws
 mod LineLaws

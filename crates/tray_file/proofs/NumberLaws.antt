@@ -1,9 +1,9 @@
 -- Numbers from digits. Assumes nothing.
 use Prim.Native.Char.{code}
-use Rattle.std.specs.Prelude.{ℕ, ◌+◌, ◌-◌, ◌*◌, ◌≤◌, ◌<◌, Bool, true, false, List, [], ◌∷◌, length, drop, get_or, ltb, ◌≡◌}
+use Rattle.std.specs.Prelude.{ℕ, ◌+◌, ◌-◌, ◌*◌, ◌≤◌, ◌<◌, true, false, List, [], ◌∷◌, length, drop, get_or, ◌≡◌}
 use native.Mathlib.{Omega.arith, Numerals.add-one}
 use mathlib.Core.Path.{refl, ap, sym, ◌∙◌}
-use borrow.Author.Tests.{lt-ltb, le-ltb, ltb-true, ltb-false}
+use borrow.Author.Tests.{lt-ltb, le-ltb}
 use lib.{ListN.drop_of_length-le, Seq.drop-cons}
 use Rattle.tray_file.proofs.LineLaws.{either_below}
 use Rattle.tray_file.specs.SeatNumber.{is_digit, all_digits, is_number, number_after, number_of, or_forty}

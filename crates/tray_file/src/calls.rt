@@ -7,17 +7,19 @@ use crate::numbers::is_number;
 use crate::posting::post;
 use crate::reading::read_state;
 use crate::show::print_grid;
-use files::read_source;
+use files::{argument, fail, read_source};
+use std::io::{Input, Print};
+use std::rt::{Env, Files};
 use tray::{SEATS, Seat};
 
-#[derive(Drop)]
+#[derive(Clone, Copy)]
 pub enum Call {
     Change(Change),
     Seal,
     Show,
 }
 
-#[derive(Drop)]
+#[derive(Clone, Copy)]
 pub enum Change {
     Load,
     Remove,
@@ -26,63 +28,93 @@ pub enum Change {
 
 // The room is longer than a state file, and what is said of a longer file than the room is what is said of its beginning
 // (specs/LongFiles.antt).
-pub fn answer_state(call: Call) -> bool {
-    let mut name = io::buffer();
-    let mut room = io::buffer();
-    let source = read_source(STATE, &mut name, &mut room);
+pub fn answer_state<R: Env + Files + Input + Print, E: Print>(
+    rt: &R,
+    errors: &E,
+    call: Call,
+) -> bool {
+    let mut name = [0u8; 4096];
+    let mut room = [0u8; 4096];
+    let source = read_source(rt, errors, STATE, &mut name, &mut room);
     if !source.is_read {
-        return print_failure(b"unreadable", &name[..source.name_length]);
+        return print_failure(rt, b"unreadable", &name[..source.name_length]);
     }
-    answer_file(call, &room[..source.length], &name[..source.name_length])
+    answer_file(
+        rt,
+        errors,
+        call,
+        &room[..source.length],
+        &name[..source.name_length],
+    )
 }
 
-fn answer_file(call: Call, file: &[u8], state: &[u8]) -> bool {
+fn answer_file<R: Env + Files + Input + Print, E: Print>(
+    rt: &R,
+    errors: &E,
+    call: Call,
+    file: &[u8],
+    state: &[u8],
+) -> bool {
     let read = read_state(file);
     let seats = read.seats;
     if read.wrong_line != 0 {
-        return print_not_a_tray(read.wrong_line, state);
+        return print_not_a_tray(rt, read.wrong_line, state);
     }
     match call {
-        Call::Change(change) => change_tray(change, seats, state),
-        Call::Seal => seal(seats),
-        Call::Show => show(seats),
+        Call::Change(change) => change_tray(rt, errors, change, seats, state),
+        Call::Seal => seal(rt, seats),
+        Call::Show => show(rt, seats),
     }
 }
 
 // The room is for a number of more digits than anybody gives.
-fn change_tray(change: Change, seats: [Seat; SEATS], state: &[u8]) -> bool {
-    let mut room = io::buffer();
-    let length = os::arg(SEAT, &mut room);
-    if os::errno() != 0 {
-        os::fail(b"the seat");
-        return false;
+fn change_tray<R: Env + Files + Input + Print, E: Print>(
+    rt: &R,
+    errors: &E,
+    change: Change,
+    seats: [Seat; SEATS],
+    state: &[u8],
+) -> bool {
+    let mut room = [0u8; 4096];
+    match argument(rt, SEAT, &mut room) {
+        Ok(length) => change_seat(rt, errors, change, seats, &room[..length], state),
+        Err(error) => {
+            fail(errors, b"the seat", error);
+            false
+        }
     }
-    change_seat(change, seats, &room[..length], state)
 }
 
-fn change_seat(change: Change, seats: [Seat; SEATS], seat: &[u8], state: &[u8]) -> bool {
+fn change_seat<R: Env + Files + Input + Print, E: Print>(
+    rt: &R,
+    errors: &E,
+    change: Change,
+    seats: [Seat; SEATS],
+    seat: &[u8],
+    state: &[u8],
+) -> bool {
     if !is_number(seat) {
         return false;
     }
     match change {
-        Change::Load => load(seats, seat, state),
-        Change::Remove => remove(seats, seat, state),
-        Change::Post => post(seats, seat, state),
+        Change::Load => load(rt, errors, seats, seat, state),
+        Change::Remove => remove(rt, errors, seats, seat, state),
+        Change::Post => post(rt, errors, seats, seat, state),
     }
 }
 
 // Only a tray that may be sealed is called so.
-fn seal(seats: [Seat; SEATS]) -> bool {
+fn seal<P: Print>(to: &P, seats: [Seat; SEATS]) -> bool {
     let look = looked(seats);
     let counts = look.counts;
     if look.sealing == 1 {
-        return print(b"sealed\n");
+        return print(to, b"sealed\n");
     }
-    print(b"open: ") && print_counts(counts)
+    print(to, b"open: ") && print_counts(to, counts)
 }
 
-fn show(seats: [Seat; SEATS]) -> bool {
+fn show<P: Print>(to: &P, seats: [Seat; SEATS]) -> bool {
     let look = looked(seats);
     let counts = look.counts;
-    print_grid(seats) && print(b"seats: ") && print_counts(counts)
+    print_grid(to, seats) && print(to, b"seats: ") && print_counts(to, counts)
 }

@@ -7,14 +7,14 @@ use answer::Answer;
 use tray::{Counts, SEATS, Seat};
 
 // What a call leaves: the tray, and its answer, 0 or a refusal.
-#[derive(Drop)]
+#[derive(Clone, Copy)]
 pub struct Kept {
     pub seats: [Seat; SEATS],
     pub answer: u8,
 }
 
 // What is said of a tray that does not change: what sealing answers, and its counts.
-#[derive(Drop)]
+#[derive(Clone, Copy)]
 pub struct Look {
     pub sealing: u8,
     pub counts: Counts,

@@ -15,8 +15,10 @@
 //     - unreadable FILE, - unwritable STATE      the reason stands on standard error
 //
 // and then `end`. STATE is read and never written. The new state is written to PLACE, which is opened only where the call is accepted: who
-// calls the program moves it to STATE. A program here has no exit status, so the last line says that all was done and printed: without it
-// nothing was answered. Wrong arguments are not answered.
+// calls the program moves it to STATE. The exit status is 0 whatever happens, so the last line says that all was done and printed: without
+// it nothing was answered. Wrong arguments are not answered.
+#![tactic(auto)]
+
 mod arguments;
 mod calls;
 mod changes;
@@ -31,34 +33,54 @@ mod state;
 use crate::calls::{Call, Change, answer_state};
 use crate::changes::new_tray;
 use crate::lines::print;
+use files::argument;
+use std::env::FillError;
+use std::io::{Input, Print};
+use std::rt::{Env, Files};
 
-fn main() {
-    let mut word = io::buffer();
-    let length = os::arg(1, &mut word);
-    if answer_call(&word[..length], os::arg_count()) {
-        print(b"end\n");
+fn main(rt: HostRuntime) {
+    answer_arguments(&rt, &rt.stderr());
+}
+
+fn answer_arguments<R: Env + Files + Input + Print, E: Print>(rt: &R, errors: &E) {
+    let mut word = [0u8; 4096];
+    let length = argument(rt, 1, &mut word).unwrap_or(0);
+    if answer_call(rt, errors, &word[..length], count_arguments(rt)) {
+        print(rt, b"end\n");
     }
 }
 
-// Answers whether the call was answered, and all of the answer printed. The count of the arguments has the program's name among them.
-fn answer_call(word: &[u8], arguments: usize) -> bool {
-    if arguments == 4 && check::same(word, b"new") {
-        return new_tray();
+// More arguments than any call has.
+const MANY: usize = 8;
+
+// The program's name is one. No more than eight are counted.
+fn count_arguments<R: Env>(rt: &R) -> usize {
+    for place in 0..MANY {
+        if !is_given(rt, place) {
+            return place;
+        }
     }
-    if arguments == 5 && check::same(word, b"load") {
-        return answer_state(Call::Change(Change::Load));
+    MANY
+}
+
+fn is_given<R: Env>(rt: &R, place: usize) -> bool {
+    !matches!(rt.arg(place, &mut []), Err(FillError::NotPresent))
+}
+
+// Answers whether the call was answered, and all of the answer printed.
+fn answer_call<R: Env + Files + Input + Print, E: Print>(
+    rt: &R,
+    errors: &E,
+    word: &[u8],
+    arguments: usize,
+) -> bool {
+    match (word, arguments) {
+        (b"new", 4) => new_tray(rt, errors),
+        (b"load", 5) => answer_state(rt, errors, Call::Change(Change::Load)),
+        (b"remove", 5) => answer_state(rt, errors, Call::Change(Change::Remove)),
+        (b"post", 7) => answer_state(rt, errors, Call::Change(Change::Post)),
+        (b"seal", 3) => answer_state(rt, errors, Call::Seal),
+        (b"show", 3) => answer_state(rt, errors, Call::Show),
+        _ => false,
     }
-    if arguments == 5 && check::same(word, b"remove") {
-        return answer_state(Call::Change(Change::Remove));
-    }
-    if arguments == 7 && check::same(word, b"post") {
-        return answer_state(Call::Change(Change::Post));
-    }
-    if arguments == 3 && check::same(word, b"seal") {
-        return answer_state(Call::Seal);
-    }
-    if arguments == 3 && check::same(word, b"show") {
-        return answer_state(Call::Show);
-    }
-    false
 }

@@ -7,7 +7,7 @@ use crate::state::{HEADING_LENGTH, LINE_LENGTH, TEXT_LENGTH, state_text};
 use tray::{SEATS, Seat, SeatState};
 
 // What a file says of a tray: its seats, or the first line that is wrong. Line 0 is none: then it is the state file of these seats.
-#[derive(Drop)]
+#[derive(Clone, Copy)]
 pub struct Read {
     pub seats: [Seat; SEATS],
     pub wrong_line: usize,

@@ -1,15 +1,20 @@
 // A recording put down at its place.
-use libc::STDOUT_FILENO;
+use std::io;
+use std::io::Print;
+use std::rt::{Env, Files};
+
+// The place of the argument that names the place.
+pub const PLACE: usize = 1;
 
 // Standard output is called `-`.
 pub fn is_standard_output(place: &[u8]) -> bool {
     place.len() == 1 && place[0] == b'-'
 }
 
-// Answers whether all of it was written; otherwise errno says why.
-pub fn save(place: &[u8], contents: &[u8]) -> bool {
+// The error is why not all of it was written.
+pub fn save<R: Env + Files + Print>(rt: &R, place: &[u8], contents: &[u8]) -> io::Result<()> {
     if is_standard_output(place) {
-        return io::write_all(STDOUT_FILENO, contents);
+        return rt.write_all(contents);
     }
-    files::save(place, contents)
+    files::save(rt, PLACE, place, contents)
 }

@@ -1,0 +1,51 @@
+// A file that an argument names, opened.
+ghost use Rattle.std.specs.Prelude.{◌≤◌, length, IfOk};
+
+use crate::reasons::no_text;
+use std::fs::OpenOptions;
+use std::rt::{Env, Files};
+use std::{io, str};
+
+// The variable in which a caller tells its folder of links.
+const LINKS: &str = "STATION_LINKS";
+
+pub fn open<R: Env + Files>(rt: &R, place: usize, name: &[u8]) -> io::Result<R::File> {
+    open_by(OpenOptions::new().read(true), rt, place, name)
+}
+
+pub fn create<R: Env + Files>(rt: &R, place: usize, name: &[u8]) -> io::Result<R::File> {
+    let mut how = OpenOptions::new();
+    how.write(true).create(true).truncate(true);
+    open_by(&how, rt, place, name)
+}
+
+// Only a name in UTF-8 opens a file here. For a file of any other name the caller makes a link in its folder, called by the argument's place.
+fn open_by<R: Env + Files>(
+    how: &OpenOptions,
+    rt: &R,
+    place: usize,
+    name: &[u8],
+) -> io::Result<R::File> {
+    if let Ok(text) = str::from_utf8(name) {
+        return how.open(rt, text);
+    }
+    let mut link = [0u8; 4096];
+    let length = link_to(rt, place, &mut link)?;
+    match str::from_utf8(&link[..length]) {
+        Ok(text) => how.open(rt, text),
+        Err(_) => Err(no_text()),
+    }
+}
+
+// Puts the link's name at the room's start, and answers how long it is.
+fn link_to<R: Env>(rt: &R, place: usize, room: &mut [u8]) -> io::Result<usize>
+    ensures { IfOk result (λ given. given ≤ length room.new) }
+{
+    let folder = rt.var(LINKS, room).unwrap_or(0);
+    if folder == 0 || room.len() - folder < 2 || place > 9 {
+        return Err(no_text());
+    }
+    room[folder] = b'/';
+    room[folder + 1] = b'0' + place as u8;
+    Ok(folder + 2)
+}
