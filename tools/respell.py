@@ -4,9 +4,10 @@ the toolchain's port.py.
 
 usage: python3 tools/respell.py [--show]      --show prints the names and what they become, and writes nothing
 
-What is renamed: names that specs/ and the lemma files of proofs/ declare, in lower camel case or with dashes; a dash stays after a word of the
-library (length-two_ticks) or after a name of two words (with_bit-is), where it joins two names. Names of src/, exported names, texts and outputs stay.
-A name that would meet another one in some file stays, and a line says so.
+What is renamed: names that specs/ and the lemma files of proofs/ declare, in lower camel case or with dashes. A dash stays after a word of the
+library (length-two_ticks, but set_up and take_least), and after a name in camel case, where it joins two names. Names of src/, exported names, texts
+and outputs stay, and so does a name that is a label of a proof too. A lemma with dashes that would meet another name gets `_lem`; of a name in camel
+case that would a line says so. Some are chosen by hand, below.
 """
 
 import os
@@ -20,7 +21,7 @@ TOKEN = re.compile(rf"(?<![\w'-])({NAME})")
 FREE = re.compile(rf"(?<![\w'.-])({NAME})")
 LIBRARY = "length take drop set sets map append replicate getD get_or".split()
 OLD_HEADS = {"getD": "get_or"}
-# Fields of records, which stand beside a field of src/ or beside a definition whose name they would have.
+# Names, most of them fields of records, that stand beside a field of src/ or beside a definition whose name they would have.
 CHOSEN = {
     "let-go": "let_go",
     "valid-least": "valid_least",

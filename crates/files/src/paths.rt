@@ -2,9 +2,6 @@
 ghost use Rattle.std.specs.Prelude.{map, ◌≡◌};
 ghost use Rattle.files.specs.Printable.{printable};
 
-use crate::reasons::no_text;
-use std::{io, str};
-
 // What stands in place of a control character.
 const HIDDEN: u8 = b'?';
 
