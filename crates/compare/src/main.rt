@@ -9,15 +9,13 @@ mod made;
 mod output;
 
 use std::io;
-use std::io::{BufWriter, Write};
 
 // Longer than the longest recording that is made.
 const ROOM: usize = 64_000;
 
 fn main(rt: HostRuntime) -> io::Result<()> {
-    let mut out = BufWriter::new(rt.alloc(), rt.stdout())?;
+    let mut out = rt.stdout();
     let mut file = [0u8; ROOM];
     let tally = classes::compare_classes(&mut out, &mut file)?;
-    output::print_tally(&mut out, tally)?;
-    out.flush()
+    output::print_tally(&mut out, tally)
 }

@@ -19,7 +19,8 @@ pub fn create<R: Env + Files>(rt: &R, place: usize, name: &[u8]) -> io::Result<R
     open_by(&how, rt, place, name)
 }
 
-// Only a name in UTF-8 opens a file here. For a file of any other name the caller makes a link in its folder, called by the argument's place.
+// Only a name in UTF-8 opens a file here. For a file of any other name the caller makes a link in its folder, called by the argument's
+// place.
 fn open_by<R: Env + Files>(
     how: &OpenOptions,
     rt: &R,

@@ -83,7 +83,8 @@ in_spans [] = refl
 in_spans (s ∷ steps) = step_shows s (ticks steps) ∙ ap (λ w. span_ticks (span s) ++ w) (in_spans steps)
 
 -- By the room law: the places that are lent suffice.
-pub few_handed : (L : Limits) (file : List ℕ) (n : ℕ) → n ≤ most_steps → length (handed_over L first_state (ticks_from file 0 n)) < byte_room
+pub few_handed : (L : Limits) (file : List ℕ) (n : ℕ) → n ≤ most_steps
+    → length (handed_over L first_state (ticks_from file 0 n)) < byte_room
 few_handed L file n h =
     let spans = map span (steps_from file 0 n) in
     subst (λ w. length (handed_over L first_state w) < byte_room) (sym (in_spans (steps_from file 0 n)))

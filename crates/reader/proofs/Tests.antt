@@ -53,7 +53,8 @@ pub told : (L : Limits) (s : State) (l : Lines) {p q : Phase} {r : State} → p 
 told L s l e f = f ∙ sym (ap (λ (p : Phase). read_in L s p l) e)
 
 -- The same of a tick with ATN released.
-pub released_told : (L : Limits) (s : State) (l : Lines) {p q : Phase} {r : State} → p ≡ q → r ≡ released_in L s q l → r ≡ released_in L s p l
+pub released_told : (L : Limits) (s : State) (l : Lines) {p q : Phase} {r : State} → p ≡ q → r ≡ released_in L s q l
+    → r ≡ released_in L s p l
 released_told L s l e f = f ∙ sym (ap (λ (p : Phase). released_in L s p l) e)
 
 -- Whether it is too soon for the finish was found out by a call; the state does not keep which byte the finish hands over.

@@ -326,7 +326,8 @@ module _ (L : Limits) where
         (ih (suc now) (Open end_mark (with_bit value b) now now) (omega (arith, times.keep_take))))
     row_valid end_mark zero value s true true true now w ih i =
         unless_below _ _ _ _ _ _ _
-        (λ a. goes clock_kept (λ js l h. leaves (a, i, carries refl (one h))) (ih (suc now) (Carried end_mark (with_bit value true) now) tt))
+        (λ a. goes clock_kept (λ js l h. leaves (a, i, carries refl (one h)))
+        (ih (suc now) (Carried end_mark (with_bit value true) now) tt))
     row_valid end_mark zero value s false true true now w ih i = unless_below _ _ _ _ _ _ _ (λ a. dead _ _ _)
 
     row_ready_to_send : (some-handed ended c d : Bool) → Row (ReadyToSend some-handed ended) c d

@@ -11,7 +11,8 @@ use Rattle.transfer.specs.{Demand3.CompleteWith, Moves.finishing, Moves.heed}
 use Rattle.transfer.specs.{Moves.unless_marked, Moves.move}
 use Rattle.transfer.specs.Spans.{◌∶◌, ticks, s1, listen}
 use Rattle.transfer.specs.Phases.{Stop, below, up_to, next, same, with_bit, handover, after_bit}
-use Rattle.transfer.specs.Parties.{Bit, Frame, Free, Plan, Sending, more, last, last_command, value_of, sending_bytes, plan_bytes, after_frame}
+use Rattle.transfer.specs.Parties.{Bit, Frame, Free, Plan, Sending, more, last, last_command}
+use Rattle.transfer.specs.Parties.{value_of, sending_bytes, plan_bytes, after_frame}
 use Rattle.transfer.specs.Rules.{BitRule, FrameRules, SendingRules, PlanRules}
 use Rattle.transfer.specs.Pair.{sender_track, receiver_track, attention_track, gives, values}
 use Rattle.transfer.specs.Facts.{AllBytes, SomeBytes, PairSendsBytes, S1Explained, LostThoughExplained, one_tick, frame80}

@@ -12,7 +12,8 @@ use Rattle.transfer.specs.Phases.{below, up_to, Move, Go, Hand, next, same, with
 use Rattle.transfer.specs.Outcome.{Outcome, ended, give, onward, run}
 use Rattle.transfer.specs.Parties.{Pulls, pulls, past, nobody, held, clock, clock_held, sets, offers, Bit, Frame, Free}
 use Rattle.transfer.specs.Parties.{Sending, more, last, last_command, Plan, finish_tick, free_tick}
-use Rattle.transfer.specs.Parties.{bits_track, frame_track, sending_track, track, bits_ticks, byte_of, after_frame, sending_bytes, plan_bytes}
+use Rattle.transfer.specs.Parties.{bits_track, frame_track, sending_track, track, bits_ticks}
+use Rattle.transfer.specs.Parties.{byte_of, after_frame, sending_bytes, plan_bytes}
 use Rattle.transfer.specs.Rules.{last_of, FirstTakeRule, FirstReleaseRule, LetGoRule, EndMarkRule, BitRule, BitRules, FrameRules}
 use Rattle.transfer.specs.Rules.{SendingRules, PlanRules}
 use Rattle.transfer.specs.Types.{Command, Limits, Tick, Byte, Phase, Start, FirstHold, Hold, ReadyToSend, ReadyForData}

@@ -10,7 +10,8 @@ use Rattle.transfer.specs.{Demand3.Consistent, Ticks.lines_in}
 use Rattle.transfer.specs.Parties.{Pulls, pulls, past, nobody, held, clock, clock_held, sets, offers, Bit, Frame, Free, Sending}
 use Rattle.transfer.specs.Parties.{more, last}
 use Rattle.transfer.specs.Parties.{last_command, Plan, finish_tick, free_tick}
-use Rattle.transfer.specs.Parties.{bits_track, frame_track, sending_track, track, bits_ticks, byte_of, after_frame, sending_bytes, plan_bytes}
+use Rattle.transfer.specs.Parties.{bits_track, frame_track, sending_track, track, bits_ticks}
+use Rattle.transfer.specs.Parties.{byte_of, after_frame, sending_bytes, plan_bytes}
 use Rattle.transfer.specs.Shown.{Turn, holding, waiting, sending, pulls_in, shown_from, shown}
 use Rattle.transfer.proofs.{Rows.lines, Forward.shows, Shapes.KeepsOff, Shapes.Tidy}
 use Rattle.transfer.proofs.HandoverTicks.{is_zero, less, handover_ticks, frame_ticks_lem}

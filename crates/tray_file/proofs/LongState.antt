@@ -37,5 +37,6 @@ long_state file room read more fits part =
       before = λ line z.
           whole_begins file room more fits (bytes_in line) (state_text read.seats) (text_length_lem read.seats forty) (part.before line z);
       wrong = λ line z seats h e.
-          part.wrong line z seats h (beginning_begins file room more fits (bytes_in (suc line)) (state_text seats) (text_length_lem seats h) e);
+          part.wrong line z seats h
+          (beginning_begins file room more fits (bytes_in (suc line)) (state_text seats) (text_length_lem seats h) e);
     }

@@ -65,7 +65,8 @@ kept_next digits number place next kept more e =
       all = rw e (kept_after (drop (place + 1) digits) m ∙ ap or_forty (sym here) ∙ kept.all);
     }
 
-pub kept_all : (digits : List ℕ) (number place : ℕ) → Kept digits number place → length digits ≤ place → number ≡ or_forty (number_of digits)
+pub kept_all : (digits : List ℕ) (number place : ℕ) → Kept digits number place → length digits ≤ place
+    → number ≡ or_forty (number_of digits)
 unfolding number_after
 kept_all digits number place kept end =
     let rest : number_after number (drop place digits) ≡ number = rw (drop_of_length-le digits end) in

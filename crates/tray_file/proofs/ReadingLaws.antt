@@ -22,7 +22,8 @@ told number seat = by_state seat.state
     by_state Failed = refl
 
 -- As far as two lists are the same, so are their beginnings.
-same_beginning : (n : ℕ) (a b : List ℕ) → n ≤ length a → n ≤ length b → ((k : ℕ) → k < n → get_or a k 0 ≡ get_or b k 0) → take n a ≡ take n b
+same_beginning : (n : ℕ) (a b : List ℕ) → n ≤ length a → n ≤ length b → ((k : ℕ) → k < n → get_or a k 0 ≡ get_or b k 0)
+    → take n a ≡ take n b
 same_beginning n a b in-a in_b same =
     let long-a = length-take-le n a in-a in
     let long-b = length-take-le n b in_b in
@@ -34,7 +35,8 @@ same_beginning n a b in-a in_b same =
 module _ (file : List ℕ) (seats : List Seat) (told-seats : SeatsTold file seats) where
   -- Where the file has the line of another tray's seat, that seat is told.
   told_alike : (others : List Seat) (number : ℕ) → length others ≡ 40 → number < 40
-      → get_or file (telling_place number) 0 ≡ get_or (state_text others) (telling_place number) 0 → seat_at seats number ≡ seat_at others number
+      → get_or file (telling_place number) 0 ≡ get_or (state_text others) (telling_place number) 0
+      → seat_at seats number ≡ seat_at others number
   told_alike others number forty within same =
       let place : telling_place number ≡ 13 + (12 * number + 5) = omega arith in
       told-seats.each number within

@@ -34,7 +34,8 @@ text_length_lem seats forty = omega (arith, lines_length 0 seats)
 abbrev spelt : (tens ones : ℕ) (word : List ℕ) → List ℕ
 spelt tens ones word =
     tens ∷ ones ∷ space
-    ∷ get_or word 0 0 ∷ get_or word 1 0 ∷ get_or word 2 0 ∷ get_or word 3 0 ∷ get_or word 4 0 ∷ get_or word 5 0 ∷ get_or word 6 0 ∷ get_or word 7 0
+    ∷ get_or word 0 0 ∷ get_or word 1 0 ∷ get_or word 2 0 ∷ get_or word 3 0 ∷ get_or word 4 0 ∷ get_or word 5 0 ∷ get_or word 6 0
+    ∷ get_or word 7 0
     ∷ newline ∷ []
 
 spelt_out : (tens ones : ℕ) (state : SeatState) → spelt tens ones (ascii (state_word state))

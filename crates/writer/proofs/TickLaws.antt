@@ -40,7 +40,8 @@ module _ (card : Card) where
   unfolding total_ticks bit_steps
   bits_ticks_lem value = omega arith
 
-  byte_ticks : (gap : List Step) (value : ℕ) → total_ticks (byte_steps card gap value) ≡ opening_ticks card + total_ticks gap + value_ticks card
+  byte_ticks : (gap : List Step) (value : ℕ)
+      → total_ticks (byte_steps card gap value) ≡ opening_ticks card + total_ticks gap + value_ticks card
   unfolding total_ticks
   byte_ticks gap value =
       let bits = bits_ticks_lem value in

@@ -66,7 +66,8 @@ module _ (bytes d : List ℕ) where
 
   pub puts_down : (w : Written) → Bytes bytes → length bytes ≤ most_bytes
       → w ≡ leaves (accepted (written_length (length bytes))) (recording_of standard_card bytes over d)
-      → written standard_card bytes d ≡ leaves (accepted (written_length (length bytes))) (recording_of standard_card bytes over d) → Promised w
+      → written standard_card bytes d ≡ leaves (accepted (written_length (length bytes))) (recording_of standard_card bytes over d)
+      → Promised w
   puts_down w is few e all =
       let recording = recording_of standard_card bytes in
       let begins : first (written_length (length bytes)) (recording over d) ≡ recording =

@@ -48,7 +48,8 @@ module _ (card : Card) (fits : CardFits card) where
 
   sent_recordable : (first : ℕ) (others : List ℕ) → Recordable (sent_steps card first others)
   unfolding sent_steps
-  sent_recordable first [] = both_recordable (byte_steps card (end_gap card) first) _ (byte_recordable _ first (search rules)) (search rules)
+  sent_recordable first [] =
+      both_recordable (byte_steps card (end_gap card) first) _ (byte_recordable _ first (search rules)) (search rules)
   sent_recordable first (second ∷ others) =
       both_recordable (byte_steps card (plain_gap card) first) _ (byte_recordable _ first (search rules)) (sent_recordable second others)
 

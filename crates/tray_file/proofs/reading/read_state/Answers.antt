@@ -7,5 +7,7 @@ use Rattle.tray_file.proofs.reading.read_state.Goals as goal
 pub returns : goal.returns
 returns c =
     reads _ _ c.seats_in-seats.ensures _
-    (subst (λ (text : List ℕ). SameUntil c.args.file.now text c.same_until-place.result) c.state_text-text.ensures c.same_until-place.ensures) _
+    (subst (λ (text : List ℕ). SameUntil c.args.file.now text c.same_until-place.result) c.state_text-text.ensures
+    c.same_until-place.ensures)
+    _
     c.wrong_line.ensures

@@ -16,7 +16,9 @@ returns-then-below c = search tests
 
 pub returns-then-some_handed : goal.returns-then-some_handed
 unfolding next
-returns-then-some_handed c = rw (c.if-lines.false, c.if-lines-2.false, ← c.below.ensures, c.if-below.false, c.if-some_handed.true) c.stop-then-some_handed.ensures
+returns-then-some_handed c =
+    rw (c.if-lines.false, c.if-lines-2.false, ← c.below.ensures, c.if-below.false, c.if-some_handed.true)
+    c.stop-then-some_handed.ensures
 
 pub returns : goal.returns
 unfolding next
