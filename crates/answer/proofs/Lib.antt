@@ -1,6 +1,5 @@
--- Why it holds. The crates above cite Numbers, Tables and NameLaws.
+-- Why it holds. The crates above cite Numbers.
 pub mod Numbers
-pub mod Tables
-pub mod NameLaws
+mod NameLaws
 mod PassName
 mod Told

@@ -1,6 +1,6 @@
 -- What an entry answers where it gives no verdict, and what it leaves in lent memory.
-use Rattle.std.specs.Prelude.{ℕ, List, ◌++◌, length, take, drop}
-use Rattle.answer.specs.{Types.Answer, Types.Refusal, Numbers.refusal_number}
+use Rattle.std.specs.Prelude.{ℕ, Result, Ok, Err, List, ◌++◌, length, take, drop}
+use Rattle.answer.specs.{Types.Answer, Types.Refusal, Types.Refused, Numbers.refusal_number}
 
 -- "Every refusal has tick 0 and count 0, its step is the offending one for 6 and 7 and otherwise 0."
 abbrev pub refused : Refusal → (step : ℕ) → Answer
@@ -9,6 +9,11 @@ refused refusal step = record { number = refusal_number refusal; tick = 0; step 
 -- "Number 0, tick 0, step 0", and a count.
 abbrev pub accepted : (count : ℕ) → Answer
 accepted count = record { number = 0; tick = 0; step = 0; count = count }
+
+-- The answer of what either gives a count or is refused.
+abbrev pub answered : Result ℕ Refused → Answer
+answered (Ok count) = accepted count
+answered (Err r) = refused r.refusal r.step
 
 -- Lent places that begin with these values: "all further places keep what they held". There are always places enough: by the room law
 -- for the judge, by refusal 11 for the writer; of a dump only so much is put down as there are places.

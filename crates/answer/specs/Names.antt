@@ -1,7 +1,7 @@
 -- The word that the programs print for each of the numbers in Numbers.
-use Rattle.std.specs.Prelude.{ℕ, zero, suc, ◌-◌, ◌<◌, List, [], ◌∷◌, ◌++◌, length, drop, replicate, ◌≡◌, eqb, if◌then◌else◌}
+use Rattle.std.specs.Prelude.{ℕ, List, [], ◌∷◌, ◌≡◌, eqb, if◌then◌else◌}
 use Prim.Native.String.{String}
-use Rattle.answer.specs.{Types.Name, Text.ascii, Text.space}
+use Rattle.answer.specs.Text.{ascii}
 
 infix 70 ◌is◌
 pub data Word : Type 0 where
@@ -60,26 +60,6 @@ word_of number = ascii (word_among words number)
 abbrev pub OnlyCompleteIsNamedSo : Type 0
 OnlyCompleteIsNamedSo = (number : ℕ) → word_of number ≡ ascii "complete" → number ≡ 20
 
--- How many characters a name has room for.
+-- How many characters a name has room for where it crosses to C. A longer word than today's has room: what crosses stays as it is.
 abbrev pub name_room : ℕ
 name_room = 32
-
--- A word in that room, with zeros after it.
-unfoldable pub in_room : (word : List ℕ) → List ℕ
-in_room word = word ++ replicate (name_room - length word) 0
-
--- The characters of a name are the word's, and then zeros, of which there is one at least.
-pub record Spells (word : List ℕ) (name : Name) : Type 0 where
-  pub counted : name.length ≡ length word
-  pub ended : length word < name_room
-  pub spelt : name.characters ≡ in_room word
-
--- The characters before the first space, at most so many.
-unfoldable pub word_in : (most : ℕ) (characters : List ℕ) → List ℕ
-word_in zero characters = []
-word_in (suc most) [] = []
-word_in (suc most) (c ∷ characters) = if eqb c space then [] else c ∷ word_in most characters
-
--- The word of the row that begins at this place.
-unfoldable pub word_at : (rows : List ℕ) (from : ℕ) → List ℕ
-word_at rows from = word_in 25 (drop from rows)

@@ -1,6 +1,6 @@
 -- The declared types of the crate and the cases of each, in one place for whoever names them.
 use Rattle.answer.specs.declared
-pub use declared.{Answer.Answer, names.Name.Name, refusal.Refusal.Refusal, verdict.Fault.Fault, verdict.Verdict.Verdict}
+pub use declared.{Answer.Answer, refusal.Refusal.Refusal, refusal.Refused.Refused, verdict.Fault.Fault, verdict.Verdict.Verdict}
 pub use declared.refusal.Refusal.TheVariants.{ShortFile, WrongVersion, TooManySteps, WrongOffset, WrongLength, ZeroDuration, StrayBits}
 pub use declared.refusal.Refusal.TheVariants.{WrongTotal, ShortBuffers, TooManyBytes, ShortDestination, NoSuchSeat, VacantSeat}
 pub use declared.refusal.Refusal.TheVariants.{SeatInUse, NotFortySeats}

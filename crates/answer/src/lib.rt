@@ -2,17 +2,18 @@
 #![tactic(auto)]
 
 ghost use Rattle.std.specs.Prelude.{◌≡◌};
-ghost use Rattle.answer.specs.Answers.{refused, accepted};
+ghost use Rattle.answer.specs.Answers.{refused, accepted, answered};
 
 mod names;
 mod refusal;
 mod verdict;
 
-pub use crate::names::{Name, name_at, name_of};
-pub use crate::refusal::Refusal;
+pub use crate::names::name_of;
+pub use crate::refusal::{Refusal, Refused};
 pub use crate::verdict::{Fault, Verdict};
 
-// Document 01: "An answer is a number, a tick, a step and a count."
+// Document 01: "An answer is a number, a tick, a step and a count." A number and no enum: the four cross to C as they are, and what the
+// judge promises (`JudgePromise`) speaks of them.
 #[derive(Clone, Copy)]
 pub struct Answer {
     pub number: u8,
@@ -42,5 +43,25 @@ impl Answer {
             step: 0,
             count,
         }
+    }
+}
+
+// The answer of what either gives a count or is refused.
+impl From<Result<u32, Refused>> for Answer {
+    ghost from_gives = { λ outcome answer. answer ≡ answered outcome };
+
+    fn from(outcome: Result<u32, Refused>) -> Answer {
+        match outcome {
+            Ok(count) => Answer::accepted(count),
+            Err(refused) => Answer::from(refused),
+        }
+    }
+}
+
+impl From<Refused> for Answer {
+    ghost from_gives = { λ r answer. answer ≡ refused r.refusal r.step };
+
+    fn from(refused: Refused) -> Answer {
+        Answer::refused(refused.refusal, refused.step)
     }
 }

@@ -5,25 +5,25 @@ ghost use Rattle.answer.specs.Numbers.{verdict_number};
 // Why a tick ends the reading.
 #[derive(Clone, Copy)]
 pub enum Fault {
-    EmptyStream,
-    Attention,
-    NoReceiver,
-    BadStart,
-    OutOfTurn,
-    EndMarkNotAcknowledged,
-    AcknowledgementShort,
-    AcknowledgementLong,
-    LateClock,
-    SenderTimeout,
-    ValidTimeShort,
-    DataMoved,
-    ClockStall,
-    ReceiverTimeout,
-    Hurried,
-    MovedAfterEnd,
-    EndMarkUnderAttention,
-    AttentionReleased,
-    Overrun,
+    EmptyStream = 21,
+    Attention = 23,
+    NoReceiver = 24,
+    BadStart = 25,
+    OutOfTurn = 26,
+    EndMarkNotAcknowledged = 27,
+    AcknowledgementShort = 28,
+    AcknowledgementLong = 29,
+    LateClock = 30,
+    SenderTimeout = 31,
+    ValidTimeShort = 32,
+    DataMoved = 33,
+    ClockStall = 34,
+    ReceiverTimeout = 35,
+    Hurried = 36,
+    MovedAfterEnd = 37,
+    EndMarkUnderAttention = 38,
+    AttentionReleased = 39,
+    Overrun = 40,
 }
 
 // Only a recording that runs out in phase E, or after the finish of commands, is complete: no tick can decide so.
@@ -38,27 +38,7 @@ impl Fault {
     pub fn number(self) -> u8
         ensures { result ≡ verdict_number (Verdict.Broken self) }
     {
-        match self {
-            Fault::EmptyStream => 21,
-            Fault::Attention => 23,
-            Fault::NoReceiver => 24,
-            Fault::BadStart => 25,
-            Fault::OutOfTurn => 26,
-            Fault::EndMarkNotAcknowledged => 27,
-            Fault::AcknowledgementShort => 28,
-            Fault::AcknowledgementLong => 29,
-            Fault::LateClock => 30,
-            Fault::SenderTimeout => 31,
-            Fault::ValidTimeShort => 32,
-            Fault::DataMoved => 33,
-            Fault::ClockStall => 34,
-            Fault::ReceiverTimeout => 35,
-            Fault::Hurried => 36,
-            Fault::MovedAfterEnd => 37,
-            Fault::EndMarkUnderAttention => 38,
-            Fault::AttentionReleased => 39,
-            Fault::Overrun => 40,
-        }
+        self as u8
     }
 }
 

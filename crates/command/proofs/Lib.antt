@@ -1,4 +1,3 @@
 -- Why it holds.
 mod Facts
 mod TableLaw
-mod WordLaws

@@ -1,6 +1,6 @@
 -- What the letters of the code's table stand for.
 use Prim.Native.Char.{code}
-use Rattle.std.specs.Prelude.{ℕ, List, get_or, ◌≡◌, eqb, if◌then◌else◌}
+use Rattle.std.specs.Prelude.{ℕ, eqb, if◌then◌else◌}
 use Rattle.command.specs.Types.{Class, Listen, Unlisten, Talk, Untalk, Secondary, Close, Open, Other}
 
 unfoldable pub class_by : (letter : ℕ) → Class
@@ -13,7 +13,3 @@ class_by letter =
     else if eqb letter (code "C") then Close
     else if eqb letter (code "O") then Open
     else Other
-
--- The class's letter stands at this place.
-pub record StandsAt (letters : List ℕ) (place : ℕ) (class : Class) : Type 0 where
-  pub stands : class ≡ class_by (get_or letters place 0)

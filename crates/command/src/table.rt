@@ -1,11 +1,12 @@
 // The table of all command bytes.
-ghost use Rattle.std.specs.Prelude.{◌<◌, length, ◌≡◌};
+ghost use Rattle.std.specs.Prelude.{◌≡◌};
 ghost use Rattle.command.specs.Classes.{class_of};
-ghost use Rattle.command.specs.Table.{class_by, StandsAt};
+ghost use Rattle.command.specs.Table.{class_by};
 
 use crate::class::Class;
 
 // A letter for each byte: a row has the sixteen bytes that begin with the same hexadecimal digit, the first row 0x00 to 0x0F.
+// Letters and no classes: sixteen classes by name take more than a line, and the ranges are no longer seen.
 const LETTERS: [u8; 256] = *b"\
     ................\
     ................\
@@ -28,41 +29,22 @@ const LETTERS: [u8; 256] = *b"\
 pub fn class_of(byte: u8) -> Class
     ensures { result ≡ class_of byte }
 {
-    class_at(&LETTERS, byte as usize)
-}
-
-// The class whose letter stands at this place.
-fn class_at(letters: &[u8], place: usize) -> Class
-    requires { place < length letters.now }
-    ensures { StandsAt letters.now place result }
-{
-    class_by(letters[place])
+    class_by(LETTERS[byte as usize])
 }
 
 // What a letter of the table stands for.
+#[tactic(auto, unfolding(crate::specs::Table::class_by))]
 fn class_by(letter: u8) -> Class
     ensures { result ≡ class_by letter }
 {
-    if letter == b'L' {
-        return Class::Listen;
+    match letter {
+        b'L' => Class::Listen,
+        b'l' => Class::Unlisten,
+        b'T' => Class::Talk,
+        b't' => Class::Untalk,
+        b'S' => Class::Secondary,
+        b'C' => Class::Close,
+        b'O' => Class::Open,
+        _ => Class::Other,
     }
-    if letter == b'l' {
-        return Class::Unlisten;
-    }
-    if letter == b'T' {
-        return Class::Talk;
-    }
-    if letter == b't' {
-        return Class::Untalk;
-    }
-    if letter == b'S' {
-        return Class::Secondary;
-    }
-    if letter == b'C' {
-        return Class::Close;
-    }
-    if letter == b'O' {
-        return Class::Open;
-    }
-    Class::Other
 }

@@ -1,4 +1,5 @@
-// Which entry a recording is made for, and which it is handed to: for data or for commands. It travels as a value.
+// Which entry a recording is made for, and which it is handed to: for data or for commands. It travels as a value, and is
+// this crate's own, since none that the crate stands on shows one.
 use crate::made::draft;
 
 #[derive(Clone, Copy)]
@@ -12,6 +13,14 @@ impl Entry {
         match self {
             Entry::Plain => Entry::Command,
             Entry::Command => Entry::Plain,
+        }
+    }
+
+    // What its recordings are called.
+    pub(crate) fn name(self) -> &'static str {
+        match self {
+            Entry::Plain => "data",
+            Entry::Command => "commands",
         }
     }
 

@@ -2,4 +2,5 @@
 pub(crate) mod draft;
 pub(crate) mod manner;
 pub(crate) mod pieces;
+pub(crate) mod random;
 pub(crate) mod transfers;

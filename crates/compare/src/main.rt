@@ -7,6 +7,7 @@ mod compared;
 mod entry;
 mod made;
 mod output;
+mod tally;
 
 use std::io;
 
@@ -17,5 +18,5 @@ fn main(rt: HostRuntime) -> io::Result<()> {
     let mut out = rt.stdout();
     let mut file = [0u8; ROOM];
     let tally = classes::compare_classes(&mut out, &mut file)?;
-    output::print_tally(&mut out, tally)
+    output::print_tally(&mut out, &tally)
 }

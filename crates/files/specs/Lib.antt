@@ -1,3 +1,2 @@
--- What the programs' text keeps to, and how much of a room is filled.
+-- What the programs' text keeps to.
 pub mod Printable
-pub mod Counts

@@ -1,47 +1,21 @@
 // The bytes of a file or of standard input.
-ghost use Rattle.std.specs.Prelude.{◌+◌, ◌≤◌, length, IfOk};
-ghost use Rattle.files.specs.Counts.{IsPrefixLen};
+ghost use Rattle.std.specs.Prelude.{◌≤◌, length, IfOk};
 
 use std::io;
 use std::io::Read;
 
-// How many bytes were read, and whether a read failed: then these are not all bytes, and the reason says why.
-#[derive(Clone, Copy)]
-pub struct Input {
-    pub length: usize,
-    pub is_broken: bool,
-    pub reason: Option<io::Error>,
-}
-
-// Reads until the input ends or the room is full.
-pub fn read_input<R: Read>(reader: &mut R, room: &mut [u8]) -> Input
-    ensures { IsPrefixLen result.length room.new }
+// Reads until the input ends or the room is full, and answers what was read. The error is why these would not be all bytes. No heap is
+// used, so the loop stands for std's `read_to_end`, which fills a `Vec`.
+pub fn read_input<'a, R: Read>(reader: &mut R, room: &'a mut [u8]) -> io::Result<&'a [u8]>
+    ensures { IfOk result (λ read. length read.now ≤ length room.old) }
 {
     let mut length: usize = 0;
     while length < room.len() {
-        match read_once(reader, room, length) {
-            Ok(0) => break,
-            Ok(more) => length += more,
-            Err(error) => {
-                return Input {
-                    length,
-                    is_broken: true,
-                    reason: Some(error),
-                };
-            }
+        let more = reader.read(&mut room[length..])?;
+        if more == 0 {
+            break;
         }
+        length += more;
     }
-    Input {
-        length,
-        is_broken: false,
-        reason: None,
-    }
-}
-
-// One read, into the room from this place on; no bytes at the input's end.
-fn read_once<R: Read>(reader: &mut R, room: &mut [u8], from: usize) -> io::Result<usize>
-    requires { from ≤ length room.old }
-    ensures { IfOk result (λ more. from + more ≤ length room.new) }
-{
-    reader.read(&mut room[from..])
+    Ok(&room[..length])
 }

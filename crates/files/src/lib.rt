@@ -10,9 +10,9 @@ mod reasons;
 mod saving;
 mod source;
 
-pub use crate::answers::{print_answer, print_failure, print_name, print_word};
-pub use crate::arguments::argument;
-pub use crate::input::{Input, read_input};
+pub use crate::answers::{print_answer, print_failure, print_file, print_name};
+pub use crate::arguments::{argument, named_argument};
+pub use crate::input::read_input;
 pub use crate::paths::hide_controls;
 pub use crate::reasons::fail;
 pub use crate::saving::save;

@@ -31,22 +31,22 @@ fn open_by<R: Env + Files>(
         return how.open(rt, text);
     }
     let mut link = [0u8; 4096];
-    let length = link_to(rt, place, &mut link)?;
-    match str::from_utf8(&link[..length]) {
+    match str::from_utf8(link_to(rt, place, &mut link)?) {
         Ok(text) => how.open(rt, text),
         Err(_) => Err(no_text()),
     }
 }
 
-// Puts the link's name at the room's start, and answers how long it is.
-fn link_to<R: Env>(rt: &R, place: usize, room: &mut [u8]) -> io::Result<usize>
-    ensures { IfOk result (λ given. given ≤ length room.new) }
+// The link's name, which is put at the room's start. A folder of no name is none.
+fn link_to<'a, R: Env>(rt: &R, place: usize, room: &'a mut [u8]) -> io::Result<&'a [u8]>
+    ensures { IfOk result (λ link. length link.now ≤ length room.old) }
 {
-    let folder = rt.var(LINKS, room).unwrap_or(0);
-    if folder == 0 || room.len() - folder < 2 || place > 9 {
-        return Err(no_text());
+    match rt.var(LINKS, room) {
+        Ok(folder) if 0 < folder && 2 <= room.len() - folder && place <= 9 => {
+            room[folder] = b'/';
+            room[folder + 1] = b'0' + place as u8;
+            Ok(&room[..folder + 2])
+        }
+        _ => Err(no_text()),
     }
-    room[folder] = b'/';
-    room[folder + 1] = b'0' + place as u8;
-    Ok(folder + 2)
 }

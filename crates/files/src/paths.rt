@@ -14,21 +14,18 @@ const DELETE: u8 = 127;
 pub fn hide_controls(name: &mut [u8])
     ensures { name.new ≡ map printable name.old }
 {
-    let mut place: usize = 0;
-    while place < name.len() {
-        name[place] = printable(name[place]);
-        place += 1;
+    for byte in name {
+        *byte = printable(*byte);
     }
 }
 
+#[tactic(auto, unfolding(crate::specs::Printable::printable))]
 fn printable(byte: u8) -> u8
     ensures { result ≡ printable byte }
 {
-    if byte < SPACE {
-        return HIDDEN;
+    if byte < SPACE || byte == DELETE {
+        HIDDEN
+    } else {
+        byte
     }
-    if byte == DELETE {
-        return HIDDEN;
-    }
-    byte
 }

@@ -27,7 +27,8 @@ pub fn no_text() -> io::Error {
 // Longer than any reason.
 const ROOM: usize = 256;
 
-// Tells on standard error, in a line, what failed and why. Where that cannot be written nobody is left to be told.
+// Tells on standard error, in a line, what failed and why. Where that cannot be written nobody is left to be told: so no error is given,
+// and each part is tried whatever became of those before it.
 pub fn fail<E: Print>(errors: &E, what: &[u8], error: io::Error) {
     let mut reason = Cursor::new([0u8; ROOM]);
     let _ = write!(reason, "{error}");

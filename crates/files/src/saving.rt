@@ -19,8 +19,7 @@ fn settle<F: OpenFile>(file: &F) -> io::Result<()> {
     match file.sync_data() {
         Ok(()) => Ok(()),
         Err(error) => match error.kind() {
-            ErrorKind::InvalidInput => Ok(()),
-            ErrorKind::Unsupported => Ok(()),
+            ErrorKind::InvalidInput | ErrorKind::Unsupported => Ok(()),
             _ => Err(error),
         },
     }

@@ -1,6 +1,6 @@
 // The recording that a program is asked about: the file that an argument names, or standard input.
-ghost use Rattle.std.specs.Prelude.{◌≤◌, length, ◌≡◌};
-ghost use Rattle.files.specs.Counts.{IsPrefixLen};
+ghost use Rattle.std.specs.Prelude.{◌≤◌, length, IfSome, IfOk, ◌≡◌};
+ghost use Rattle.std.specs.Result.{result_ok};
 
 use crate::input::read_input;
 use crate::opening::open;
@@ -8,100 +8,80 @@ use crate::paths::hide_controls;
 use crate::reasons::{fail, too_long};
 use std::env::FillError;
 use std::io;
-use std::io::{Input, Print, Read};
+use std::io::{Input, Print};
 use std::rt::{Env, Files};
 
-// How much of the lent name and of the lent room is filled. Where the source could not be read, the reason was told on standard error.
+// The source's name, fit to be printed, and its bytes. Where these could not be read, the reason was told on standard error.
 #[derive(Clone, Copy)]
-pub struct Source {
-    pub name_length: usize,
-    pub length: usize,
-    pub is_read: bool,
+pub struct Source<'a> {
+    pub name: &'a [u8],
+    pub file: Option<&'a [u8]>,
 }
 
-// Puts the source's name, fit to be printed, in `name` and its bytes in `room`, as many as there is room for. The argument of this place
-// names a file; without it the source is standard input.
-pub fn read_source<R: Env + Files + Input, E: Print>(
+// Puts the source's name in `name` and its bytes in `room`, as many as there is room for. The argument of this place names a file; without
+// it the source is standard input.
+pub fn read_source<'a, R: Env + Files + Input, E: Print>(
     rt: &R,
     errors: &E,
     place: usize,
-    name: &mut [u8],
-    room: &mut [u8],
-) -> Source
-    ensures { IsPrefixLen result.name_length name.new × IsPrefixLen result.length room.new }
+    name: &'a mut [u8],
+    room: &'a mut [u8],
+) -> Source<'a>
+    ensures name { length result.name.now ≤ length name.old }
+    ensures file { IfSome result.file (λ file. length file.now ≤ length room.old) }
 {
     match rt.arg(place, name) {
-        Ok(given) => read_file(rt, errors, place, name, given, room),
+        Ok(given) => {
+            let named = &mut name[..given];
+            let read = read_file(rt, place, named, room);
+            hide_controls(named);
+            told(errors, named, read)
+        }
         Err(FillError::NotPresent) => {
-            let length = name_input(name);
-            read_named(&mut rt.reader(), errors, name, length, room)
+            let named = name_input(name);
+            told(errors, named, read_input(&mut rt.reader(), room))
         }
         Err(FillError::TooLong) => {
             hide_controls(name);
-            unreadable(errors, name, name.len(), too_long())
+            told(errors, name, Err(too_long()))
         }
     }
 }
 
 // Standard input is called `-`.
-fn name_input(name: &mut [u8]) -> usize
-    ensures { result ≤ length name.new }
+fn name_input(name: &mut [u8]) -> &[u8]
+    ensures { length result.now ≤ length name.old }
 {
-    if name.len() == 0 {
-        return 0;
+    if name.is_empty() {
+        return name;
     }
     name[0] = b'-';
-    1
+    &name[..1]
 }
 
-fn read_file<R: Env + Files, E: Print>(
+fn read_file<'a, R: Env + Files>(
     rt: &R,
-    errors: &E,
     place: usize,
-    name: &mut [u8],
-    name_length: usize,
-    room: &mut [u8],
-) -> Source
-    requires { name_length ≤ length name.old }
-    ensures { (result.name_length ≡ name_length) × (result.length ≤ length room.new) }
-{
-    let opened = open(rt, place, &name[..name_length]);
-    hide_controls(name);
-    match opened {
-        Ok(mut file) => read_named(&mut file, errors, name, name_length, room),
-        Err(error) => unreadable(errors, name, name_length, error),
-    }
-}
-
-fn read_named<I: Read, E: Print>(
-    reader: &mut I,
-    errors: &E,
     name: &[u8],
-    name_length: usize,
-    room: &mut [u8],
-) -> Source
-    requires { name_length ≤ length name.now }
-    ensures { (result.name_length ≡ name_length) × (result.length ≤ length room.new) }
+    room: &'a mut [u8],
+) -> io::Result<&'a [u8]>
+    ensures { IfOk result (λ read. length read.now ≤ length room.old) }
 {
-    let input = read_input(reader, room);
-    match input.reason {
-        Some(error) => unreadable(errors, name, name_length, error),
-        None => Source {
-            name_length,
-            length: input.length,
-            is_read: true,
-        },
-    }
+    let mut file = open(rt, place, name)?;
+    read_input(&mut file, room)
 }
 
-fn unreadable<E: Print>(errors: &E, name: &[u8], name_length: usize, error: io::Error) -> Source
-    requires { name_length ≤ length name.now }
-    ensures { (result.name_length ≡ name_length) × (result.length ≡ 0) }
+// The source of this name and of what was read. Where that is an error, it is told.
+fn told<'a, E: Print>(errors: &E, name: &'a [u8], read: io::Result<&'a [u8]>) -> Source<'a>
+    ensures name { result.name.now ≡ name.now }
+    ensures file { result.file ≡ result_ok read.entry }
 {
-    fail(errors, &name[..name_length], error);
-    Source {
-        name_length,
-        length: 0,
-        is_read: false,
-    }
+    let file = match read {
+        Ok(file) => Some(file),
+        Err(error) => {
+            fail(errors, name, error);
+            None
+        }
+    };
+    Source { name, file }
 }

@@ -3,7 +3,7 @@ use Rattle.std.specs.Prelude.{ℕ, zero, suc, ◌+◌, ◌-◌, ◌≤◌, ◌<�
 use mathlib.Core.Path.{refl, sym, ap, subst, ◌∙◌}
 use native.Mathlib.Omega.{arith}
 use borrow.Author.Tests.{ltb-true, ltb-false, lt-ltb, le-ltb}
-use Rattle.recording.specs.{Types.Header, Types.Step, Layout.header_at, Layout.step_at, GoodForm.GoodForm}
+use Rattle.recording.specs.{Types.Step, Layout.header_at, Layout.step_at, GoodForm.GoodForm}
 use Rattle.recording.specs.Ticks.{steps_from, steps_of, total_ticks, ticks_of}
 use Rattle.recording.proofs.StepLaws.{steps_count, total_counts}
 use Rattle.judge.specs.{Judged.step_holding, Mission.Holds}
@@ -83,12 +83,18 @@ module _ (file : List ℕ) (n tick : ℕ) where
     pub ends : end ≡ total_ticks (steps_from file 0 i)
     pub held : end ≤ tick → step_holding tick (steps_from file 0 n) ≡ i
 
-  pub all_before : GoodForm file n → (h : Header) → h ≡ header_at file → Back n h.total
+  pub all_before : GoodForm file n → (end : ℕ) → end ≡ (header_at file).total → Back n end
   unfolding ticks_of
-  all_before good h e =
-      let total : h.total ≡ total_ticks (steps_from file 0 n) =
-      ap (λ (x : Header). x.total) e ∙ good.total ∙ sym (total_counts (steps_of file)) ∙ ap total_ticks (good_steps file n good) in
+  all_before good end e =
+      let total : end ≡ total_ticks (steps_from file 0 n) =
+      e ∙ good.total ∙ sym (total_counts (steps_of file)) ∙ ap total_ticks (good_steps file n good) in
       record { few = omega arith; ends = total; held = λ p. past_the_end tick _ (omega (arith, total)) ∙ steps_count file n 0 }
+
+  -- None is: the first step holds it.
+  pub none_before : (i end : ℕ) → Back i end → i ≤ 0 → 0 ≡ step_holding tick (steps_from file 0 n)
+  unfolding steps_from total_ticks
+  none_before zero end b h = sym (b.held (omega (arith, b.ends)))
+  none_before (suc i) end b h = absurd (omega (arith, h))
 
   -- The last of them, where the tick is before its end.
   pub some_before : (i end : ℕ) → Back i end → tick < end → 1 ≤ i

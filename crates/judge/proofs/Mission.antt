@@ -1,5 +1,5 @@
 -- What the station stands on. Assumes nothing.
-use Rattle.std.specs.Prelude.{ℕ, zero, suc, ◌≤◌, Bool, true, false, List, [], ◌++◌, length, replicate, ◌≡◌, ltb}
+use Rattle.std.specs.Prelude.{ℕ, Ok, Err, zero, suc, ◌≤◌, Bool, true, false, List, [], ◌++◌, length, replicate, ◌≡◌, ltb}
 use mathlib.Core.Bool.{false≢true}
 use mathlib.Core.Path.{refl, sym, ap, subst⁻¹, ◌∙◌}
 use native.Mathlib.Omega.{arith}
@@ -7,9 +7,9 @@ use lib.ListN.{length-map}
 use borrow.Author.Tests.{ltb-true, ltb-false}
 use Rattle.answer.specs.{Answers.refused, Numbers.verdict_number, Numbers.IsVerdict}
 use Rattle.answer.specs.Types.{Refusal, ShortBuffers, Fault, Verdict, Complete, Cut, Broken}
-use Rattle.recording.specs.{Form.form_of, GoodForm.GoodForm, Layout.header_at}
+use Rattle.recording.specs.{Form.Form, Form.form_of, GoodForm.GoodForm, Layout.header_at}
 use Rattle.recording.specs.Ticks.{steps_from, steps_of, total_ticks, ticks, ticks_of}
-use Rattle.recording.specs.Types.{Form, Good, Refused, Step}
+use Rattle.recording.specs.Types.{Step}
 use Rattle.recording.proofs.{GoodFormLaws.good_form, StepLaws.steps_count, StepLaws.total_counts}
 use Rattle.transfer.specs.{Demand3.Consistent, Limits.standard_limits, Limits.command_limits, Outcome.Outcome}
 use Rattle.transfer.specs.Types.{Entry, Plain, Command, Limits, Phase, End, Finished}
@@ -62,8 +62,8 @@ module _ (L : Limits) (file bytes ledger : List ℕ) where
     verdict : GoodWithRoom file bytes ledger → got ≡ verdict_leaves (steps_of file) read bytes ledger → Kind
 
   by_form : (form : Form) → form_of file ≡ form → Kind
-  by_form (Refused r step) e = refusal r step (is_refused L file bytes ledger r step e)
-  by_form (Good n) e = by_room (ltb (length bytes) byte_room) (ltb (length ledger) ledger_room) refl refl
+  by_form (Err r) e = refusal r.refusal r.step (is_refused L file bytes ledger r e)
+  by_form (Ok n) e = by_room (ltb (length bytes) byte_room) (ltb (length ledger) ledger_room) refl refl
     where
       by_room : (t u : Bool) → ltb (length bytes) byte_room ≡ t → ltb (length ledger) ledger_room ≡ u → Kind
       by_room true u et eu = refusal ShortBuffers 0 (few_places L file bytes ledger n e (ltb-true (length bytes) byte_room et))

@@ -1,9 +1,9 @@
 -- From what was read to what the judge gives. Assumes nothing.
-use Rattle.std.specs.Prelude.{ℕ, ◌≤◌, List, length, ◌≡◌}
+use Rattle.std.specs.Prelude.{ℕ, Ok, ◌≤◌, List, length, ◌≡◌}
 use mathlib.Core.Path.{sym, ap, ap₂, ◌∙◌}
 use native.Mathlib.Nat.{zero-add}
 use Rattle.answer.specs.{Types.Answer, Answers.◌over◌, Numbers.verdict_number}
-use Rattle.recording.specs.{Types.Good, Types.Step, Form.form_of, Ticks.steps_from}
+use Rattle.recording.specs.{Types.Step, Form.form_of, Ticks.steps_from}
 use Rattle.recording.proofs.GoodFormLaws.{good_form}
 use Rattle.reader.specs.{After.handed_over, States.first_state}
 use Rattle.transfer.specs.{Types.Limits, Types.Tick, Types.Decision, Outcome.Outcome, Outcome.outcome, Pair.values, Moves.decision_of}
@@ -34,7 +34,7 @@ read_verdict L steps w b g =
     ∙ ap (λ (o : Outcome). verdict_leaves steps o b g) (sym (outcome_states L w))
 
 -- A recording of good form that was read, with enough room lent.
-pub is_read : (L : Limits) (file b g : List ℕ) (n : ℕ) → form_of file ≡ Good n → byte_room ≤ length b → ledger_room ≤ length g
+pub is_read : (L : Limits) (file b g : List ℕ) (n : ℕ) → form_of file ≡ Ok n → byte_room ≤ length b → ledger_room ≤ length g
     → (s : State) (b' g' : List ℕ) (a : Answer) → reached s b' g' ≡ read_into L (ticks_from file 0 n) b g
     → a ≡ state_answer (steps_from file 0 n) s → leaves a b' g' ≡ judged L file b g
 is_read L file b g n e hb hg s b' g' a er ea =

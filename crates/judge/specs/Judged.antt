@@ -1,8 +1,8 @@
 -- What the judge answers and leaves, for any bytes and any lent buffers: document 01, "Numbers and what they leave".
-use Rattle.std.specs.Prelude.{ℕ, suc, ◌-◌, List, [], ◌∷◌, map, length, ltb, if◌then◌else◌}
+use Rattle.std.specs.Prelude.{ℕ, suc, Ok, Err, ◌-◌, List, [], ◌∷◌, map, length, ltb, if◌then◌else◌}
 use Rattle.answer.specs.{Types.Answer, Types.ShortBuffers, Answers.refused, Answers.◌over◌, Numbers.verdict_number}
-use Rattle.recording.specs.{Form.form_of, Ticks.Tick as Recorded, Ticks.steps_of, Ticks.ticks}
-use Rattle.recording.specs.Types.{Form, Good, Refused, Step}
+use Rattle.recording.specs.{Form.Form, Form.form_of, Ticks.Tick as Recorded, Ticks.steps_of, Ticks.ticks}
+use Rattle.recording.specs.Types.{Step}
 use Rattle.transfer.specs.{Lines.lines_of, Outcome.Outcome, Outcome.outcome, Pair.values, Ticks.lines_in}
 use Rattle.transfer.specs.Types.{Limits, Lines, Tick, Byte, Decision}
 
@@ -58,8 +58,8 @@ verdict_leaves steps o bytes ledger =
 
 -- Steps whose form was tested. At a refusal "no lent byte or number changes".
 unfoldable pub judged_in_form : Limits → List Step → Form → (bytes ledger : List ℕ) → Judged
-judged_in_form L steps (Refused refusal step) bytes ledger = leaves (refused refusal step) bytes ledger
-judged_in_form L steps (Good n) bytes ledger =
+judged_in_form L steps (Err r) bytes ledger = leaves (refused r.refusal r.step) bytes ledger
+judged_in_form L steps (Ok n) bytes ledger =
     -- 9: "byte buffer under 1,000 places, or ledger under 2,000"
     if ltb (length bytes) byte_room then leaves (refused ShortBuffers 0) bytes ledger else
     if ltb (length ledger) ledger_room then leaves (refused ShortBuffers 0) bytes ledger else

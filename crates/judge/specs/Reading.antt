@@ -1,7 +1,7 @@
 -- The reading of a recording as its functions go: what each of them promises to the entry.
 use Rattle.std.specs.Prelude.{ℕ, ◌+◌, ◌*◌, ◌^◌, ◌≤◌, ◌<◌, List, length, set, ◌≡◌, eqb, if◌then◌else◌}
 use Rattle.answer.specs.{Types.Answer, Answers.◌over◌}
-use Rattle.recording.specs.{Types.Step, Layout.most_steps, Layout.file_length, Ticks.steps_from}
+use Rattle.recording.specs.{Types.Step, Ticks.steps_from}
 use Rattle.reader.specs.{After.state_after, After.handed_over, States.first_state}
 use Rattle.transfer.specs.{Types.Limits, Types.Tick, Pair.values, Moves.held_byte, Moves.decision_of}
 use Rattle.reader.specs.declared.state.State.{State}
@@ -22,10 +22,8 @@ pub record Storable (bytes ledger : List ℕ) (s t : State) : Type 0 where
   pub ledger_place : 2 * s.count + 1 < length ledger
   pub take : (t.count ≡ s.count → ⊥) → (held_byte s.phase).take < 2 ^ 32
 
--- A file of n steps can be read, with enough room lent.
-pub record Readable (file : List ℕ) (n : ℕ) (bytes ledger : List ℕ) : Type 0 where
-  pub few : n ≤ most_steps
-  pub whole : file_length n ≤ length file
+-- Enough room is lent.
+pub record RoomLent (bytes ledger : List ℕ) : Type 0 where
   pub byte_room_lent : byte_room ≤ length bytes
   pub ledger_room_lent : ledger_room ≤ length ledger
 

@@ -1,36 +1,33 @@
 // The answer that a reading comes to.
 ghost use Rattle.std.specs.Prelude.{◌≡◌};
-ghost use Rattle.recording.specs.{GoodForm.GoodForm, Ticks.steps_from};
+ghost use Rattle.recording.specs.Ticks.{steps_from};
 ghost use Rattle.judge.specs.{Judged.step_holding, Reading.state_answer};
 
 use answer::Answer;
 use reader::State;
-use recording::{Header, Step};
+use recording::Recording;
 
 // The step that holds a tick, or the number of steps where none does: looked for back from the end, near which most verdicts fall.
-fn step_holding(file: &[u8], steps: usize, tick: u32) -> u32
-    requires { GoodForm file.now steps }
-    ensures { result ≡ step_holding tick (steps_from file.now 0 steps) }
+fn step_holding(recording: Recording, tick: u32) -> u32
+    ensures { result ≡ step_holding tick (steps_from recording.entry.file.now 0 recording.entry.steps) }
 {
-    let header = Header::read(file);
-    let mut begin = header.total;
-    let mut index = steps;
-    while tick < begin {
-        index -= 1;
-        let step = Step::read(file, index);
-        begin -= step.duration as u32;
+    let mut begin = recording.total();
+    for index in (0..recording.steps).rev() {
+        if begin <= tick {
+            return index as u32 + 1;
+        }
+        begin -= recording.step(index).duration as u32;
     }
-    index as u32
+    0
 }
 
 // The answer where the recording runs out, or a verdict fell, in this state.
-pub(crate) fn state_answer(file: &[u8], steps: usize, state: State) -> Answer
-    requires { GoodForm file.now steps }
-    ensures { result ≡ state_answer (steps_from file.now 0 steps) state }
+pub(crate) fn state_answer(recording: Recording, state: State) -> Answer
+    ensures { result ≡ state_answer (steps_from recording.entry.file.now 0 recording.entry.steps) state }
 {
     let decision = state.decision();
     let verdict = decision.verdict;
-    let step = step_holding(file, steps, decision.tick);
+    let step = step_holding(recording, decision.tick);
     Answer {
         number: verdict.number(),
         tick: decision.tick,

@@ -5,7 +5,6 @@ ghost use Rattle.judge.specs.{Judged.leaves, Judged.judged, Promise.JudgePromise
 
 use crate::{answers, reading};
 use answer::{Answer, Refusal};
-use recording::Form;
 use transfer::Limits;
 
 // The places that a judgement needs: under these it is refusal 9.
@@ -16,6 +15,7 @@ const LEDGER_ROOM: usize = 2000;
 // Judges one data transfer. Promised, first: the answer and both lent buffers, whole, are what `judged` gives. Second, demand 3: where the
 // recording is of good form, with enough room lent, it is complete with a string exactly if a sender and a receiver that keep their rules
 // give it and no step is marked, and the ledger shows the earliest such pair.
+// It is an `Answer` and no `Result`: that is what `station_judge` hands on to C, and what `JudgePromise` speaks of.
 pub fn judge(file: &[u8], bytes: &mut [u8], ledger: &mut [u32]) -> Answer
     ensures { JudgePromise standard_limits file.now bytes.old ledger.old
         (leaves result bytes.new ledger.new) }
@@ -24,7 +24,7 @@ pub fn judge(file: &[u8], bytes: &mut [u8], ledger: &mut [u32]) -> Answer
 }
 
 // Judges one command transfer. Promised is the same by the command entry's limits: ATN is pulled until the finish, and no byte has the end
-// mark.
+// mark. An entry of its own and no parameter, as C has it: each names what it promises.
 pub fn judge_command(file: &[u8], bytes: &mut [u8], ledger: &mut [u32]) -> Answer
     ensures { JudgePromise command_limits file.now bytes.old ledger.old
         (leaves result bytes.new ledger.new) }
@@ -37,18 +37,14 @@ fn judge_by(file: &[u8], limits: Limits, bytes: &mut [u8], ledger: &mut [u32]) -
     ensures { leaves result bytes.new ledger.new
         ≡ judged limits file.now bytes.old ledger.old }
 {
-    let form = recording::check_form(file);
-    match form {
-        Form::Refused { refusal, step } => Answer::refused(refusal, step),
-        Form::Good { steps } => {
-            if bytes.len() < BYTE_ROOM {
+    match recording::check_form(file) {
+        Err(refused) => Answer::from(refused),
+        Ok(recording) => {
+            if bytes.len() < BYTE_ROOM || ledger.len() < LEDGER_ROOM {
                 return Answer::refused(Refusal::ShortBuffers, 0);
             }
-            if ledger.len() < LEDGER_ROOM {
-                return Answer::refused(Refusal::ShortBuffers, 0);
-            }
-            let state = reading::read(file, steps, limits, bytes, ledger);
-            answers::state_answer(file, steps, state)
+            let state = reading::read(recording, limits, bytes, ledger);
+            answers::state_answer(recording, state)
         }
     }
 }

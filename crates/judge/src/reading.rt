@@ -1,33 +1,32 @@
 // The reading of a recording: step after step, and in each step tick after tick, idle ticks in one move.
 ghost use Rattle.std.specs.Prelude.{◌≡◌};
-ghost use Rattle.judge.specs.Reading.{Readable, reached, read_into, ticks_from};
+ghost use Rattle.judge.specs.Reading.{RoomLent, reached, read_into, ticks_from};
 
 use crate::handed;
 use reader::State;
-use recording::Step;
+use recording::Recording;
 use transfer::{Limits, Lines, Tick};
 
 // The state after the last tick, or at the deciding one. Each byte and its two ticks are stored as they are handed over.
 pub(crate) fn read(
-    file: &[u8],
-    steps: usize,
+    recording: Recording,
     limits: Limits,
     bytes: &mut [u8],
     ledger: &mut [u32],
 ) -> State
-    requires { Readable file.now steps bytes.old ledger.old }
+    requires { RoomLent bytes.old ledger.old }
     ensures { reached result bytes.new ledger.new
-        ≡ read_into limits (ticks_from file.now 0 steps) bytes.old ledger.old }
+        ≡ read_into limits (ticks_from recording.entry.file.now 0 recording.entry.steps) bytes.old ledger.old }
 {
     let mut state = State::new();
-    let mut index: usize = 0;
-    'steps: while index < steps {
-        let step = Step::read(file, index);
+    'steps: for index in 0..recording.steps {
+        let step = recording.step(index);
         // The mark is the first tick's alone. A marked tick decides, so no later tick of a marked step is read.
         let tick = Tick {
             marked: step.marked(),
-            lines: Lines::of_byte(step.lines),
+            lines: Lines::from(step.lines),
         };
+        // A `while` and no `for`: how many ticks a turn takes is known only at its end.
         let mut left = step.duration;
         while left > 0 {
             left -= 1;
@@ -42,7 +41,6 @@ pub(crate) fn read(
             state = next.later(idle);
             left -= idle;
         }
-        index += 1;
     }
     state
 }

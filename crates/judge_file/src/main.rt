@@ -12,58 +12,61 @@
 
 mod handed;
 
-use crate::handed::{Transfer, print_handed};
+use crate::handed::print_handed;
 use answer::Answer;
 use files::{argument, print_answer, print_failure, read_source};
-use std::io::{Input, Print};
+use std::io;
+use std::io::{ErrorKind, Input, Print};
 use std::rt::{Env, Files};
+use transfer::Entry;
 
 fn main(rt: HostRuntime) {
-    judge_arguments(&rt, &rt.stderr());
+    let _ = judge_arguments(&rt, &rt.stderr());
 }
 
-fn judge_arguments<R: Env + Files + Input + Print, E: Print>(rt: &R, errors: &E) {
-    let mut word = [0u8; 4096];
-    let length = argument(rt, 1, &mut word).unwrap_or(0);
-    match &word[..length] {
-        b"data" => judge_source(rt, errors, Transfer::Data),
-        b"command" => judge_source(rt, errors, Transfer::Command),
-        _ => {}
+fn judge_arguments<R: Env + Files + Input + Print, E: Print>(rt: &R, errors: &E) -> io::Result<()> {
+    let mut room = [0u8; 4096];
+    let word: &[u8] = argument(rt, 1, &mut room)?;
+    match word {
+        b"data" => judge_source(rt, errors, Entry::Plain),
+        b"command" => judge_source(rt, errors, Entry::Command),
+        _ => Ok(()),
     }
 }
 
 // The room is longer than any recording. A longer file than the room is judged by its beginning, and what the judge says of that is what
 // it says of the whole file (crates/judge/specs/LongFiles.antt).
-fn judge_source<R: Env + Files + Input + Print, E: Print>(rt: &R, errors: &E, transfer: Transfer) {
+fn judge_source<R: Env + Files + Input + Print, E: Print>(
+    rt: &R,
+    errors: &E,
+    transfer: Entry,
+) -> io::Result<()> {
     let mut name = [0u8; 4096];
     let mut room = [0u8; 65536];
     let source = read_source(rt, errors, 2, &mut name, &mut room);
-    let is_printed = if source.is_read {
-        print_judged(
-            rt,
-            transfer,
-            &room[..source.length],
-            &name[..source.name_length],
-        )
-    } else {
-        print_failure(rt, b"unreadable", &name[..source.name_length])
-    };
-    if is_printed {
-        let _ = rt.write_all(b"end\n");
+    match source.file {
+        Some(file) => print_judged(rt, transfer, file, source.name)?,
+        None => print_failure(rt, b"unreadable", source.name)?,
     }
+    rt.print("end\n")
 }
 
-fn print_judged<P: Print>(to: &P, transfer: Transfer, file: &[u8], name: &[u8]) -> bool {
+fn print_judged<P: Print>(to: &P, transfer: Entry, file: &[u8], name: &[u8]) -> io::Result<()> {
     let mut bytes = [0u8; 1000];
     let mut ledger = [0u32; 2000];
     let answer = judge_by(transfer, file, &mut bytes, &mut ledger);
-    print_answer(to, answer, name)
-        && print_handed(to, transfer, answer.count as usize, &bytes, &ledger)
+    print_answer(to, answer, name)?;
+    let count = answer.count as usize;
+    // the judge counts no more than the buffers hold
+    match (bytes.get(..count), ledger.get(..2 * count)) {
+        (Some(bytes), Some(ledger)) => print_handed(to, transfer, bytes, ledger),
+        _ => Err(ErrorKind::InvalidData.into()),
+    }
 }
 
-fn judge_by(transfer: Transfer, file: &[u8], bytes: &mut [u8], ledger: &mut [u32]) -> Answer {
+fn judge_by(transfer: Entry, file: &[u8], bytes: &mut [u8], ledger: &mut [u32]) -> Answer {
     match transfer {
-        Transfer::Data => judge::judge(file, bytes, ledger),
-        Transfer::Command => judge::judge_command(file, bytes, ledger),
+        Entry::Plain => judge::judge(file, bytes, ledger),
+        Entry::Command => judge::judge_command(file, bytes, ledger),
     }
 }

@@ -1,10 +1,10 @@
 -- In which phase a recording can run out: a data transfer never after the finish of commands, and commands never in E where the last tick
 -- shows ATN released. Assumes nothing.
 use Rattle.std.specs.Prelude.{ℕ, Bool, true, false, List, [], ◌∷◌, map, ◌≡◌}
-use mathlib.Core.Bool.{false≢true}
+use native.Mathlib.Omega.{arith}
 use mathlib.Core.Path.{refl, ap, ◌∙◌, subst}
-use Rattle.transfer.specs.{Moves.is_decided, Moves.heed, Rules.last_of, Ticks.lines_in}
-use Rattle.transfer.specs.Types.{Entry, Plain, Command, Limits, Lines, Tick, Phase, End, Finished}
+use Rattle.transfer.specs.{Moves.is_decided, Rules.last_of, Ticks.lines_in}
+use Rattle.transfer.specs.Types.{Plain, Command, Limits, Lines, Tick, Phase, End, Finished}
 use Rattle.transfer.proofs.Rows.{settled}
 use Rattle.reader.specs.{States.next_state, After.state_after}
 use Rattle.reader.specs.declared.state.State.{State}
@@ -23,14 +23,8 @@ module _ (L : Limits) where
   plain_never_past plain [] s h = h
   plain_never_past plain (t ∷ w) s h = plain_never_past plain w (next_state L s t) after
     where
-      never : (a : Bool) → heed Plain a false false true ≡ true → ⊥
-      never true e = false≢true e
-      never false e = false≢true e
-
       after : (finish : ℕ) → (next_state L s t).phase ≡ Finished finish → ⊥
-      after finish e =
-          never t.lines.atn
-          (subst (λ (entry : Entry). settled entry t.lines (Finished finish) ≡ true) plain (kept_by s t (Finished finish) e refl))
+      after finish e = grind (arith, kept_by s t (Finished finish) e refl)
 
   pub command_end_pulled : L.entry ≡ Command → (w : List Tick) (s : State) (atn : Bool)
       → ((finish : ℕ) → s.phase ≡ End finish → atn ≡ true)
@@ -39,11 +33,5 @@ module _ (L : Limits) where
   command_end_pulled command [] s atn h = h
   command_end_pulled command (t ∷ w) s atn h = command_end_pulled command w (next_state L s t) t.lines.atn after
     where
-      pulled : (a b : Bool) → heed Command a false b false ≡ true → a ≡ true
-      pulled true b e = refl
-      pulled false b e = e
-
       after : (finish : ℕ) → (next_state L s t).phase ≡ End finish → t.lines.atn ≡ true
-      after finish e =
-          pulled t.lines.atn _
-          (subst (λ (entry : Entry). settled entry t.lines (End finish) ≡ true) command (kept_by s t (End finish) e refl))
+      after finish e = grind (arith, kept_by s t (End finish) e refl)

@@ -1,68 +1,30 @@
--- A tick where no verdict has fallen: a marked one, and one that ATN leaves to the rows or does not. Assumes nothing.
-use Rattle.std.specs.Prelude.{Bool, true, false, not, ◌≡◌}
-use mathlib.Core.Bool.{false≢true}
-use mathlib.Core.Path.{refl, sym, ap, ◌∙◌}
-use Rattle.answer.specs.Types.{Attention, Overrun}
-use Rattle.transfer.specs.Phases.{Stop, next}
-use Rattle.transfer.specs.Moves.{stage, released, heed, is_decided}
-use Rattle.transfer.specs.Ticks.{tick}
-use Rattle.transfer.specs.Types.{Entry, Plain, Command, Limits, Lines, Tick}
-use Rattle.transfer.proofs.Stages.{undecided_move, marked_move}
+-- What the code's tests make of a tick, and the finish of commands. Assumes nothing.
+use Rattle.std.specs.Prelude.{ℕ, ◌+◌, Bool, ◌≡◌, if◌then◌else◌}
+use native.Mathlib.Omega.{arith}
+use Rattle.std.proofs.lemmas.Bool.Decides.{nat_tests}
+use Rattle.answer.specs.Types.{Overrun}
+use Rattle.transfer.specs.Phases.{below, up_to, Stop}
+use Rattle.transfer.specs.Moves.{finishing, move, is_decided, no_byte}
+use Rattle.transfer.specs.Types.{Limits, Tick, Byte}
 use Rattle.reader.specs.States.{follow, read_in, is_under_way, turned_in, next_state}
 use Rattle.reader.specs.declared.state.State.{State}
 
--- An arm was told the entry.
-pub plain_told : {entry : Entry} (atn : Bool) → entry ≡ Plain → not atn ≡ is_under_way entry atn
-plain_told atn e = by_line atn ∙ sym (ap (λ (n : Entry). is_under_way n atn) e)
-  where
-    by_line : (atn : Bool) → not atn ≡ is_under_way Plain atn
-    by_line true = refl
-    by_line false = refl
+-- The state does not keep which byte the finish hands over.
+pub any_byte : (s : State) (too-soon : Bool) (byte : Byte) (c d : Bool)
+    → follow s (finishing too-soon s.tick no_byte c d) ≡ follow s (finishing too-soon s.tick byte c d)
+unfolding finishing follow
+any_byte s too-soon byte c d = grind arith
 
-pub command_told : {entry : Entry} (atn : Bool) → entry ≡ Command → atn ≡ is_under_way entry atn
-command_told atn e = by_line atn ∙ sym (ap (λ (n : Entry). is_under_way n atn) e)
-  where
-    by_line : (atn : Bool) → atn ≡ is_under_way Command atn
-    by_line true = refl
-    by_line false = refl
+-- In a carried handover the take is at offset 1.
+pub from_offset_1 : (n since now : ℕ) → up_to n since now ≡ below n (since + 1) now
+unfolding up_to below
+from_offset_1 n since now = grind (arith, nat_tests)
 
-pub turned_told : (L : Limits) (s : State) (l : Lines) {entry told : Entry} {r : State} → entry ≡ told → r ≡ turned_in L s told l
-    → r ≡ turned_in L s entry l
-turned_told L s l e f = f ∙ sym (ap (λ (n : Entry). turned_in L s n l) e)
-
-module _ (L : Limits) (s : State) (t : Tick) (u : is_decided s.phase ≡ false) where
-  pub by_mark : t.marked ≡ true → follow s (Stop Overrun) ≡ next_state L s t
-  unfolding next_state
-  by_mark e = ap (follow s) (sym (marked_move L s.tick s.phase t u e))
-
-module _ (L : Limits) (s : State) (t : Tick) (u : is_decided s.phase ≡ false) (unmarked : t.marked ≡ false) where
-  abbrev l : Lines
-  l = t.lines
-
-  heeded : next_state L s t ≡ follow s (heed L.entry l.atn (Stop Attention) (next L s.tick s.phase l.clk l.«data»)
-      (released L s.tick (stage s.phase) l.clk l.«data»))
-  unfolding next_state
-  heeded =
-      ap (λ (m : Bool). next_state L s (tick m l)) unmarked ∙ ap (follow s) (undecided_move L s.tick s.phase l u)
-
-  pub by_rows : is_under_way L.entry l.atn ≡ true → read_in L s s.phase l ≡ next_state L s t
-  by_rows e = by_line L.entry l.atn e ∙ sym heeded
-    where
-      by_line : (entry : Entry) (atn : Bool) → is_under_way entry atn ≡ true → read_in L s s.phase l ≡ follow s
-          (heed entry atn (Stop Attention) (next L s.tick s.phase l.clk l.«data»)
-          (released L s.tick (stage s.phase) l.clk l.«data»))
-      by_line Plain true e = absurd (false≢true e)
-      by_line Plain false e = refl
-      by_line Command true e = refl
-      by_line Command false e = absurd (false≢true e)
-
-  pub by_turn : is_under_way L.entry l.atn ≡ false → turned_in L s L.entry l ≡ next_state L s t
-  by_turn e = by_line L.entry l.atn e ∙ sym heeded
-    where
-      by_line : (entry : Entry) (atn : Bool) → is_under_way entry atn ≡ false → turned_in L s entry l ≡ follow s
-          (heed entry atn (Stop Attention) (next L s.tick s.phase l.clk l.«data»)
-          (released L s.tick (stage s.phase) l.clk l.«data»))
-      by_line Plain true e = refl
-      by_line Plain false e = absurd (false≢true (sym e))
-      by_line Command true e = absurd (false≢true (sym e))
-      by_line Command false e = refl
+-- A tick by the tests that `State::next` makes, in their order.
+pub next_by_tests : (L : Limits) (s : State) (t : Tick) → next_state L s t
+    ≡ (if is_decided s.phase then s
+    else if t.marked then follow s (Stop Overrun)
+    else if is_under_way L.entry t.lines.atn then read_in L s s.phase t.lines
+    else turned_in L s L.entry t.lines)
+unfolding next_state follow move
+next_by_tests L s t = grind arith

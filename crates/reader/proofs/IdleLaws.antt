@@ -1,145 +1,53 @@
 -- Idle ticks: after a tick that goes on, the same lines keep the phase until its own limit. Assumes nothing.
-use Rattle.std.specs.Prelude.{ℕ, zero, suc, ◌+◌, ◌-◌, ◌≤◌, ◌<◌, Bool, true, false, ◌++◌, replicate, ◌≡◌, ltb, if◌then◌else◌}
+use Rattle.std.specs.Prelude.{ℕ, zero, suc, ◌+◌, ◌≤◌, ◌<◌, Bool, true, false, ◌++◌, replicate, ◌≡◌}
+use Rattle.std.proofs.lemmas.Bool.Decides.{nat_tests}
 use native.Mathlib.Omega.{arith}
-use mathlib.Core.Bool.{false≢true}
-use mathlib.Core.Path.{refl, sym, ap, subst⁻¹, ◌∙◌}
-use borrow.Author.Tests.{lt-ltb, le-ltb, ltb-true, ltb-false, eq-eqb}
-use Rattle.transfer.specs.Moves.{stage, is_decided, released, heed, move}
+use mathlib.Core.Path.{refl, sym, ap, ◌∙◌}
+use borrow.Author.Tests.{eq-eqb}
+use Rattle.transfer.specs.Moves.{stage, is_decided, released, move}
 use Rattle.transfer.specs.Ticks.{tick}
-use Rattle.transfer.specs.Phases.{below, Move, Go, Hand, Stop, next, same}
-use Rattle.transfer.specs.Types.{Entry, Plain, Command, Limits, Lines, Tick, Phase, Start, FirstHold, Hold, ReadyToSend}
-use Rattle.transfer.specs.Types.{ReadyForData, Acknowledgement, Acknowledged}
-use Rattle.transfer.specs.Types.{SetUp, Valid, Open, Carried, End, Finished, Decided}
+use Rattle.transfer.specs.Phases.{below, Go, next, same}
+use Rattle.transfer.specs.Types.{Limits, Lines, Tick, Phase}
 use Rattle.reader.specs.{States.follow, States.next_state, After.state_after, After.handed_in, After.handed_over}
 use Rattle.reader.specs.Idle.{ticks_below, Lasts, always, until, lasts, ticks_in, idle_ticks, later, Idle, IdleLaw}
 use Rattle.reader.specs.declared.state.State.{State}
-use Rattle.answer.specs.Types.{Attention}
-use Rattle.transfer.proofs.Stages.{Told, is_running, is_holding, is_end, is_past_stage, is_decided_stage, told, undecided, undecided_move}
-use Rattle.transfer.proofs.Rows.{Climbs, stops, goes, hands, climbs, rests, is_past, settled}
+use Rattle.transfer.proofs.Stages.{undecided, undecided_move}
+use Rattle.transfer.proofs.Rows.{climbs, rests, is_past, settled}
 
--- The ticks below an offset, counted.
-pub all_below : (n since now most : ℕ) → now + most < since + n → most ≡ ticks_below n since now most
-unfolding ticks_below
-all_below n since now most h = rw (lt-ltb (now + most) (since + n) h)
-
-pub some_below : (n since now most : ℕ) → since + n ≤ now + most → since + n - now ≡ ticks_below n since now most
-unfolding ticks_below
-some_below n since now most h = rw (le-ltb (now + most) (since + n) h)
-
--- There are no more than were asked for, and each of them is below it.
+-- The ticks below an offset: there are no more than were asked for, and each of them is below it.
 few_below : (n since now most : ℕ) → ticks_below n since now most ≤ most
 unfolding ticks_below
-few_below n since now most = by_test (ltb (now + most) (since + n)) refl
-  where
-    by_test : (t : Bool) → ltb (now + most) (since + n) ≡ t → (if t then most else since + n - now) ≤ most
-    by_test true e = omega arith
-    by_test false e = omega (arith, ltb-false (now + most) (since + n) e)
+few_below n since now most = grind (arith, nat_tests)
 
 each_below : (n since now most j : ℕ) → j < ticks_below n since now most → below n since (now + j) ≡ true
 unfolding ticks_below below
-each_below n since now most j = by_test (ltb (now + most) (since + n)) refl
-  where
-    by_test : (t : Bool) → ltb (now + most) (since + n) ≡ t → j < (if t then most else since + n - now) → ltb (now + j) (since + n) ≡ true
-    by_test true e h = lt-ltb (now + j) (since + n) (omega (arith, ltb-true (now + most) (since + n) e))
-    by_test false e h = lt-ltb (now + j) (since + n) (omega arith)
-
--- The phase that an arm was told.
-pub idle_told : (L : Limits) (now most : ℕ) {p q : Phase} → p ≡ q → idle_ticks L q now most ≡ idle_ticks L p now most
-idle_told L now most e = sym (ap (λ (p : Phase). idle_ticks L p now most) e)
+each_below n since now most j h = grind (arith, nat_tests)
 
 few_idle : (x : Lasts) (now most : ℕ) → ticks_in x now most ≤ most
 few_idle always now most = omega arith
 few_idle (until n since) now most = few_below n since now most
 
-same_is : (a b : Bool) → same a b ≡ true → b ≡ a
-unfolding same
-same_is true b e = e
-same_is false true e = absurd (false≢true e)
-same_is false false e = refl
-
--- A row whose time is not over.
-stays_below : (n since now : ℕ) (x y : Move) → below n since now ≡ true → (if below n since now then x else y) ≡ x
-stays_below n since now x y e = ap (λ (t : Bool). if t then x else y) e
-
 -- The lines that a phase is settled in keep it at each idle tick.
 kept_row : (L : Limits) (p : Phase) (c d : Bool) (now most j : ℕ) → rests p c d ≡ true → j < idle_ticks L p now most
     → next L (now + j) p c d ≡ Go p
-unfolding next
-kept_row L Start true false now most j e h = stays_below _ _ _ _ _ (each_below _ _ _ _ j h)
-kept_row L Start true true now most j e h = absurd (false≢true e)
-kept_row L Start false d now most j e h = absurd (false≢true e)
-kept_row L FirstHold true true now most j e h = refl
-kept_row L FirstHold true false now most j e h = absurd (false≢true e)
-kept_row L FirstHold false d now most j e h = absurd (false≢true e)
-kept_row L (Hold end_mark value take let_go) true true now most j e h = refl
-kept_row L (Hold end_mark value take let_go) true false now most j e h = absurd (false≢true e)
-kept_row L (Hold end_mark value take let_go) false d now most j e h = absurd (false≢true e)
-kept_row L (ReadyToSend some-handed ended) false true now most j e h = refl
-kept_row L (ReadyToSend some-handed ended) false false now most j e h = absurd (false≢true e)
-kept_row L (ReadyToSend some-handed ended) true d now most j e h = absurd (false≢true e)
-kept_row L (ReadyForData some-handed since) false false now most j e h = stays_below _ _ _ _ _ (each_below _ _ _ _ j h)
-kept_row L (ReadyForData some-handed since) false true now most j e h = absurd (false≢true e)
-kept_row L (ReadyForData some-handed since) true d now most j e h = absurd (false≢true e)
-kept_row L (Acknowledgement some-handed since ready-tick) false true now most j e h = stays_below _ _ _ _ _ (each_below _ _ _ _ j h)
-kept_row L (Acknowledgement some-handed since ready-tick) false false now most j e h = absurd (false≢true e)
-kept_row L (Acknowledgement some-handed since ready-tick) true d now most j e h = absurd (false≢true e)
-kept_row L (Acknowledged some-handed since ready-tick) false false now most j e h = stays_below _ _ _ _ _ (each_below _ _ _ _ j h)
-kept_row L (Acknowledged some-handed since ready-tick) false true now most j e h = absurd (false≢true e)
-kept_row L (Acknowledged some-handed since ready-tick) true d now most j e h = absurd (false≢true e)
-kept_row L (SetUp end_mark value last since bits_left) true d now most j e h =
-    stays_below _ _ _ _ _ (each_below _ _ _ _ j h)
-    ∙ ap (λ (b : Bool). Go (SetUp end_mark value b since bits_left)) (same_is last d e)
-kept_row L (SetUp end_mark value last since bits_left) false d now most j e h = absurd (false≢true e)
-kept_row L (Valid end_mark value bit since bits_left) false d now most j e h =
-    rw e (stays_below _ _ _ _ _ (each_below _ _ _ _ j h))
-kept_row L (Valid end_mark value bit since bits_left) true d now most j e h = absurd (false≢true e)
-kept_row L (Open end_mark value since let_go) true false now most j e h = stays_below _ _ _ _ _ (each_below _ _ _ _ j h)
-kept_row L (Open end_mark value since let_go) true true now most j e h = absurd (false≢true e)
-kept_row L (Open end_mark value since let_go) false d now most j e h = absurd (false≢true e)
-kept_row L (Carried end_mark value since) true true now most j e h = refl
-kept_row L (Carried end_mark value since) true false now most j e h = absurd (false≢true e)
-kept_row L (Carried end_mark value since) false d now most j e h = absurd (false≢true e)
-kept_row L (End finish) false false now most j e h = refl
-kept_row L (End finish) false true now most j e h = absurd (false≢true e)
-kept_row L (End finish) true d now most j e h = absurd (false≢true e)
-kept_row L (Finished finish) c d now most j e h = absurd (false≢true e)
-kept_row L (Decided fault) c d now most j e h = absurd (false≢true e)
+unfolding next same
+kept_row L p c d now most j e h = grind (arith, each_below)
 
 -- After the finish any lines keep the phase.
 kept_past : (L : Limits) (p : Phase) (c d : Bool) (now : ℕ) → is_past (stage p) ≡ true → released L now (stage p) c d ≡ Go p
-kept_past L p c d now e = by_stage (told p)
-  where
-    by_stage : Told p → released L now (stage p) c d ≡ Go p
-    by_stage (is_running r) = absurd (false≢true (sym (ap is_past r) ∙ e))
-    by_stage (is_holding byte r) = absurd (false≢true (sym (ap is_past r) ∙ e))
-    by_stage (is_end finish r) = absurd (false≢true (sym (ap (λ (q : Phase). is_past (stage q)) r) ∙ e))
-    by_stage (is_past_stage finish r) = subst⁻¹ (λ (q : Phase). released L now (stage q) c d ≡ Go q) r refl
-    by_stage (is_decided_stage fault r) = absurd (false≢true (sym (ap (λ (q : Phase). is_past (stage q)) r) ∙ e))
+kept_past L p c d now e = grind arith
 
 kept : (L : Limits) (p : Phase) (l : Lines) (now most j : ℕ) → settled L.entry l p ≡ true → j < idle_ticks L p now most
     → move L (now + j) p (tick false l) ≡ Go p
 kept L p l now most j e h =
-    undecided_move L (now + j) p l (undecided L.entry p l e) ∙ heeded L.entry l.atn l.clk l.«data» e
-  where
-    heeded : (entry : Entry) (a c d : Bool) → heed entry a false (rests p c d) (is_past (stage p)) ≡ true
-        → heed entry a (Stop Attention) (next L (now + j) p c d) (released L (now + j) (stage p) c d) ≡ Go p
-    heeded Plain true c d e = absurd (false≢true e)
-    heeded Plain false c d e = kept_row L p c d now most j e h
-    heeded Command true c d e = kept_row L p c d now most j e h
-    heeded Command false c d e = kept_past L p c d (now + j) e
+    undecided_move L (now + j) p l (undecided L.entry p l e)
+    ∙ grind (arith, kept_row L p l.clk l.«data» now most j, kept_past L p l.clk l.«data» (now + j))
 
 -- A tick that decided nothing led to a phase that its lines are settled in.
-module _ (L : Limits) (s : State) (t : Tick) where
-  moved : {now : ℕ} {p : Phase} (x : Move) → Climbs now p (settled L.entry t.lines) x → is_decided (follow s x).phase ≡ false
-      → settled L.entry t.lines (follow s x).phase ≡ true
-  unfolding follow
-  moved (Stop f) stops u = absurd (false≢true (sym u))
-  moved (Go p) (goes m f e) u = e
-  moved (Hand b p) (hands m f e held taken) u = e
-
-  pub led : is_decided (next_state L s t).phase ≡ false → settled L.entry t.lines (next_state L s t).phase ≡ true
-  unfolding next_state
-  led u = moved _ (climbs L s.tick s.phase t) u
+pub led : (L : Limits) (s : State) (t : Tick) → is_decided (next_state L s t).phase ≡ false
+    → settled L.entry t.lines (next_state L s t).phase ≡ true
+unfolding next_state follow
+led L s t u = grind (arith, climbs L s.tick s.phase t)
 
 -- The same state at another tick.
 abbrev at_tick : State → ℕ → State

@@ -1,6 +1,4 @@
 -- Why it holds. The crates above cite TickLaws, IdleLaws, Outcomes and Ends.
-pub mod Tests
-pub mod Endings
 pub mod TickLaws
 pub mod IdleLaws
 mod Heeding

@@ -1,13 +1,13 @@
 -- What the states come to is the outcome of specs/Outcome.antt of the crate below, where what follows a tick is a function of the phase
 -- alone. Assumes nothing.
 use Rattle.std.specs.Prelude.{ℕ, suc, ◌+◌, true, false, List, [], ◌∷◌, ◌++◌, ◌≡◌}
+use Rattle.std.proofs.lemmas.Bool.Decides.{nat_tests}
 use native.Mathlib.{Omega.arith, Numerals.add-one}
-use mathlib.Core.Path.{refl, sym, ap, ap₂, ◌∙◌}
-use borrow.Author.Tests.{eq-eqb, ne_eqb}
+use mathlib.Core.Path.{refl, sym, ap, ◌∙◌}
 use Rattle.transfer.specs.Phases.{Move, Go, Hand, Stop}
-use Rattle.transfer.specs.Moves.{move, is_decided, held_byte, decision_of}
-use Rattle.transfer.specs.Outcome.{Outcome, decided, give, onward, run}
-use Rattle.transfer.specs.Types.{Limits, Lines, Tick, Byte, Phase}
+use Rattle.transfer.specs.Moves.{move, is_decided}
+use Rattle.transfer.specs.Outcome.{Outcome, decided, onward, run}
+use Rattle.transfer.specs.Types.{Limits, Lines, Tick, Phase}
 use Rattle.answer.specs.Types.{Fault}
 use Rattle.transfer.proofs.Stages.{undecided}
 use Rattle.transfer.proofs.Rows.{Climbs, stops, goes, hands, climbs, settled}
@@ -20,10 +20,7 @@ module _ (L : Limits) where
   -- A verdict stands, whatever ticks follow.
   stands : (f : Fault) (s : State) (w : List Tick) → outcome_from L (follow s (Stop f)) w ≡ decided f s.tick
   unfolding follow
-  stands f s w =
-      let same = decided-stands L (follow s (Stop f)) w refl in
-      ap₂ (λ (t : State) (bytes : List Byte). record { decision = decision_of t.phase t.tick; bytes = bytes }) same.state
-      same.bytes
+  stands f s w = grind (arith, decided-stands L (follow s (Stop f)) w refl)
 
   -- The outcome where a tick led from s to t.
   abbrev past : (s t : State) → List Tick → Outcome
@@ -33,16 +30,9 @@ module _ (L : Limits) where
   unfolding state_after handed_over
   tick_read s t l w e = ap (λ (x : State). past s x w) e
 
-  -- The byte that a tick handed over, by the counts.
-  none_handed : (s t : State) (w : List Tick) → t.count ≡ s.count → past s t w ≡ outcome_from L t w
-  none_handed s t w e = rw (eq-eqb t.count s.count e)
-
-  one_handed : (s t : State) (w : List Tick) → (t.count ≡ s.count → ⊥) → past s t w ≡ give (held_byte s.phase) (outcome_from L t w)
-  one_handed s t w e = rw (ne_eqb t.count s.count e)
-
   stopped : (f : Fault) (s : State) (w : List Tick) → past s (follow s (Stop f)) w ≡ decided f s.tick
   unfolding follow
-  stopped f s w = none_handed s (follow s (Stop f)) w refl ∙ stands f s w
+  stopped f s w = grind (arith, nat_tests, stands f s w)
 
   -- In a state that is not decided, the outcome is the run from its tick and its phase.
   abbrev Runs : List Tick → Type 0
@@ -62,9 +52,8 @@ module _ (L : Limits) where
         → past s (follow s x) w ≡ onward x s.tick beyond
     unfolding follow
     moved l (Stop f) stops = stopped f s w
-    moved l (Go p) (goes a f e) = none_handed s (follow s (Go p)) w refl ∙ next_run p _ l e
-    moved l (Hand b p) (hands a f e held taken) =
-        one_handed s (follow s (Hand b p)) w (λ z. omega (arith, z)) ∙ ap₂ give (sym held) (next_run p _ l e)
+    moved l (Go p) (goes a f e) = grind (arith, nat_tests, next_run p s.count l e)
+    moved l (Hand b p) (hands a f e held taken) = grind (arith, nat_tests, next_run p (s.count + 1) l e)
 
     one_more : (t : Tick) → outcome_from L s (t ∷ w) ≡ onward (move L s.tick s.phase t) s.tick beyond
     unfolding next_state

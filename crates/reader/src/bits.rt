@@ -1,88 +1,72 @@
 // The eight bits of a byte, least significant first: set-up and valid.
 ghost use Rattle.std.specs.Prelude.{◌≡◌};
-ghost use Rattle.transfer.specs.Phases.{same, with_bit};
-ghost use Rattle.reader.specs.States.{read_in, Countable};
+ghost use Rattle.transfer.specs.Phases.{with_bit};
+ghost use Rattle.reader.specs.States.{read_in};
 
-use crate::offset::below;
+use crate::moment::Moment;
 use crate::state::State;
 use answer::Fault;
-use transfer::{Limits, Lines, Phase};
-
-// Both pulled or both released.
-fn same(a: bool, b: bool) -> bool
-    ensures { result ≡ same a b }
-{
-    if a {
-        return b;
-    }
-    !b
-}
+use transfer::Phase;
 
 // The bits so far, least significant first, and one more: it comes in at the top, and eight bring the first to the bottom.
+#[tactic(auto, unfolding(transfer::specs::Phases::with_bit))]
 fn with_bit(value: u8, bit: bool) -> u8
     ensures { result ≡ with_bit value bit }
 {
-    if bit {
-        return value / 2 + 128;
-    }
-    value / 2
+    if bit { value / 2 + 128 } else { value / 2 }
 }
 
-impl State {
+impl Moment {
     // Set-up: CLK pulled, DATA free.
+    #[tactic(auto, unfolding(transfer::specs::Phases::next, transfer::specs::Phases::same))]
     pub(crate) fn set_up(
         self,
-        limits: Limits,
         end_mark: bool,
         value: u8,
         last: bool,
         since: u32,
         bits_left: u32,
-        lines: Lines,
     ) -> State
-        requires { Countable self }
-        ensures { result ≡ read_in limits self (Phase.SetUp end_mark value last since bits_left) lines }
+        ensures { result ≡ read_in self.limits self.state (Phase.SetUp end_mark value last since bits_left) self.lines }
     {
-        let now = self.tick;
-        if lines.clk {
-            let stay = Phase::SetUp(end_mark, value, lines.data, since, bits_left);
-            return self.go_below(limits.set_up_most, since, stay, Fault::ClockStall);
+        let now = self.state.tick;
+        match (self.lines.clk, self.lines.data) {
+            (true, data) if self.below(self.limits.set_up_most, since) => {
+                self.go(Phase::SetUp(end_mark, value, data, since, bits_left))
+            }
+            (true, _) => self.stop(Fault::ClockStall),
+            (false, data) if last == data => {
+                self.go(Phase::Valid(end_mark, value, data, now, bits_left))
+            }
+            (false, _) => self.stop(Fault::DataMoved),
         }
-        if same(last, lines.data) {
-            return self.go(Phase::Valid(end_mark, value, lines.data, now, bits_left));
-        }
-        self.stop(Fault::DataMoved)
     }
 
     // Valid: CLK released, DATA steady.
+    #[tactic(auto, unfolding(transfer::specs::Phases::next, transfer::specs::Phases::same, transfer::specs::Phases::after_bit))]
     pub(crate) fn valid(
         self,
-        limits: Limits,
         end_mark: bool,
         value: u8,
         bit: bool,
         since: u32,
         bits_left: u32,
-        lines: Lines,
     ) -> State
-        requires { Countable self }
-        ensures { result ≡ read_in limits self (Phase.Valid end_mark value bit since bits_left) lines }
+        ensures { result ≡ read_in self.limits self.state (Phase.Valid end_mark value bit since bits_left) self.lines }
     {
-        let now = self.tick;
-        if lines.clk {
-            if below(limits.valid_least, since, now) {
-                return self.stop(Fault::ValidTimeShort);
+        let limits = self.limits;
+        let now = self.state.tick;
+        match (self.lines.clk, self.lines.data) {
+            (false, data) if bit != data => self.stop(Fault::DataMoved),
+            (false, _) if self.below(limits.valid_most, since) => {
+                self.go(Phase::Valid(end_mark, value, bit, since, bits_left))
             }
-            let value = with_bit(value, bit);
-            if bits_left == 0 {
-                return self.handover(end_mark, value, bit, lines.data);
+            (false, _) => self.stop(Fault::ClockStall),
+            (true, _) if self.below(limits.valid_least, since) => self.stop(Fault::ValidTimeShort),
+            (true, _) if bits_left == 0 => self.handover(end_mark, with_bit(value, bit), bit),
+            (true, data) => {
+                self.go(Phase::SetUp(end_mark, with_bit(value, bit), data, now, bits_left - 1))
             }
-            return self.go(Phase::SetUp(end_mark, value, lines.data, now, bits_left - 1));
         }
-        if same(bit, lines.data) {
-            let stay = Phase::Valid(end_mark, value, bit, since, bits_left);
-            return self.go_below(limits.valid_most, since, stay, Fault::ClockStall);
-        }
-        self.stop(Fault::DataMoved)
     }
 }

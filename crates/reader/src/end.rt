@@ -1,22 +1,21 @@
 // Phase E end.
-ghost use Rattle.std.specs.Prelude.{◌≡◌};
-ghost use Rattle.reader.specs.States.{read_in, Countable};
+#![tactic(auto, unfolding(transfer::specs::Phases::next))]
 
+ghost use Rattle.std.specs.Prelude.{◌≡◌};
+ghost use Rattle.reader.specs.States.{read_in};
+
+use crate::moment::Moment;
 use crate::state::State;
 use answer::Fault;
-use transfer::{Limits, Lines, Phase};
+use transfer::Phase;
 
-impl State {
-    pub(crate) fn end(self, limits: Limits, finish: u32, lines: Lines) -> State
-        requires { Countable self }
-        ensures { result ≡ read_in limits self (Phase.End finish) lines }
+impl Moment {
+    pub(crate) fn end(self, finish: u32) -> State
+        ensures { result ≡ read_in self.limits self.state (Phase.End finish) self.lines }
     {
-        if lines.clk {
-            return self.stop(Fault::MovedAfterEnd);
+        match (self.lines.clk, self.lines.data) {
+            (false, false) => self.go(Phase::End(finish)),
+            _ => self.stop(Fault::MovedAfterEnd),
         }
-        if lines.data {
-            return self.stop(Fault::MovedAfterEnd);
-        }
-        self.go(Phase::End(finish))
     }
 }

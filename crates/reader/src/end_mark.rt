@@ -1,12 +1,14 @@
 // Phases D ready for data, F acknowledgement and G: whether the byte to come has the end mark.
+#![tactic(auto, unfolding(transfer::specs::Phases::next))]
+
 ghost use Rattle.std.specs.Prelude.{◌≡◌};
 ghost use Rattle.transfer.specs.Phases.{long_silence};
-ghost use Rattle.reader.specs.States.{read_in, Countable};
+ghost use Rattle.reader.specs.States.{read_in};
 
-use crate::offset::below;
+use crate::moment::Moment;
 use crate::state::State;
 use answer::Fault;
-use transfer::{Entry, Limits, Lines, Phase};
+use transfer::{Entry, Phase};
 
 // D lasted too long.
 fn long_silence(entry: Entry) -> Fault
@@ -18,91 +20,63 @@ fn long_silence(entry: Entry) -> Fault
     }
 }
 
-impl State {
+impl Moment {
     // D
-    pub(crate) fn ready_for_data(
-        self,
-        limits: Limits,
-        some_handed: bool,
-        since: u32,
-        lines: Lines,
-    ) -> State
-        requires { Countable self }
-        ensures { result ≡ read_in limits self (Phase.ReadyForData some_handed since) lines }
+    pub(crate) fn ready_for_data(self, some_handed: bool, since: u32) -> State
+        ensures { result ≡ read_in self.limits self.state (Phase.ReadyForData some_handed since) self.lines }
     {
-        let now = self.tick;
-        if lines.clk {
-            let bits = Phase::SetUp(false, 0, lines.data, now, 7);
-            return self.go_below(limits.end_mark, since, bits, Fault::OutOfTurn);
+        let limits = self.limits;
+        let now = self.state.tick;
+        match (self.lines.clk, self.lines.data) {
+            (true, data) if self.below(limits.end_mark, since) => {
+                self.go(Phase::SetUp(false, 0, data, now, 7))
+            }
+            (true, _) => self.stop(Fault::OutOfTurn),
+            (false, true) if self.below(limits.end_mark, since) => self.stop(Fault::OutOfTurn),
+            (false, true) => self.go(Phase::Acknowledgement(some_handed, now, since)),
+            (false, false) if self.below(limits.end_mark_latest, since) => {
+                self.go(Phase::ReadyForData(some_handed, since))
+            }
+            (false, false) => self.stop(long_silence(limits.entry)),
         }
-        if lines.data {
-            let acknowledgement = Phase::Acknowledgement(some_handed, now, since);
-            return self.go_from(limits.end_mark, since, acknowledgement, Fault::OutOfTurn);
-        }
-        let stay = Phase::ReadyForData(some_handed, since);
-        let entry = limits.entry;
-        self.go_below(limits.end_mark_latest, since, stay, long_silence(entry))
     }
 
     // F
-    pub(crate) fn acknowledgement(
-        self,
-        limits: Limits,
-        some_handed: bool,
-        since: u32,
-        ready_tick: u32,
-        lines: Lines,
-    ) -> State
-        requires { Countable self }
-        ensures { result ≡ read_in limits self (Phase.Acknowledgement some_handed since ready_tick) lines }
+    pub(crate) fn acknowledgement(self, some_handed: bool, since: u32, ready_tick: u32) -> State
+        ensures { result ≡ read_in self.limits self.state (Phase.Acknowledgement some_handed since ready_tick) self.lines }
     {
-        if lines.clk {
-            return self.stop(Fault::OutOfTurn);
+        let limits = self.limits;
+        let now = self.state.tick;
+        match (self.lines.clk, self.lines.data) {
+            (true, _) => self.stop(Fault::OutOfTurn),
+            (false, true) if self.below(limits.acknowledge_most, since) => {
+                self.go(Phase::Acknowledgement(some_handed, since, ready_tick))
+            }
+            (false, true) => self.stop(Fault::AcknowledgementLong),
+            (false, false) if self.below(limits.acknowledge_least, since) => {
+                self.stop(Fault::AcknowledgementShort)
+            }
+            (false, false) => self.go(Phase::Acknowledged(some_handed, now, ready_tick)),
         }
-        if lines.data {
-            let stay = Phase::Acknowledgement(some_handed, since, ready_tick);
-            return self.go_below(
-                limits.acknowledge_most,
-                since,
-                stay,
-                Fault::AcknowledgementLong,
-            );
-        }
-        let acknowledged = Phase::Acknowledged(some_handed, self.tick, ready_tick);
-        self.go_from(
-            limits.acknowledge_least,
-            since,
-            acknowledged,
-            Fault::AcknowledgementShort,
-        )
     }
 
     // G; the 512 goes on counting from the first tick of D
-    pub(crate) fn acknowledged(
-        self,
-        limits: Limits,
-        some_handed: bool,
-        since: u32,
-        ready_tick: u32,
-        lines: Lines,
-    ) -> State
-        requires { Countable self }
-        ensures { result ≡ read_in limits self (Phase.Acknowledged some_handed since ready_tick) lines }
+    pub(crate) fn acknowledged(self, some_handed: bool, since: u32, ready_tick: u32) -> State
+        ensures { result ≡ read_in self.limits self.state (Phase.Acknowledged some_handed since ready_tick) self.lines }
     {
-        let now = self.tick;
-        if lines.clk {
-            let bits = Phase::SetUp(true, 0, lines.data, now, 7);
-            return self.go_up_to(limits.response, since, bits, Fault::LateClock);
+        let limits = self.limits;
+        let now = self.state.tick;
+        match (self.lines.clk, self.lines.data) {
+            (false, true) => self.stop(Fault::OutOfTurn),
+            (true, data) if self.up_to(limits.response, since) => {
+                self.go(Phase::SetUp(true, 0, data, now, 7))
+            }
+            (true, _) => self.stop(Fault::LateClock),
+            (false, false) if self.below(limits.sender_timeout, ready_tick) => {
+                self.go(Phase::Acknowledged(some_handed, since, ready_tick))
+            }
+            (false, false) if some_handed => self.stop(Fault::SenderTimeout),
+            (false, false) => self.stop(Fault::EmptyStream),
         }
-        if lines.data {
-            return self.stop(Fault::OutOfTurn);
-        }
-        if below(limits.sender_timeout, ready_tick, now) {
-            return self.go(Phase::Acknowledged(some_handed, since, ready_tick));
-        }
-        if some_handed {
-            return self.stop(Fault::SenderTimeout);
-        }
-        self.stop(Fault::EmptyStream)
     }
 }

@@ -8,6 +8,7 @@ mod end; // phase E
 mod end_mark; // phases D, F and G
 mod handover;
 mod idle; // ticks that only add one to the tick
+mod moment; // one tick that is under way: where it leads
 mod offset;
 mod state;
 

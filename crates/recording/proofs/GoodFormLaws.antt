@@ -1,10 +1,10 @@
 -- A recording is not refused exactly if it has all that `GoodForm` says. Assumes nothing.
-use Rattle.std.specs.Prelude.{ℕ, zero, suc, ◌+◌, ◌≤◌, ◌<◌, List, length, ◌≡◌, ltb}
+use Rattle.std.specs.Prelude.{ℕ, Ok, zero, suc, ◌+◌, ◌≤◌, ◌<◌, List, length, ◌≡◌, ltb}
 use Rattle.answer.specs.Basics.{differs}
 use mathlib.Core.Path.{refl, sym, ap, ◌∙◌}
 use native.Mathlib.{Nat.add-zero, Nat.zero-add, Omega.arith}
 use borrow.Author.Tests.{le-ltb, eq-eqb}
-use Rattle.recording.specs.{Types.Form, Types.Good, GoodForm.GoodStep, GoodForm.GoodForm, GoodForm.GoodFormLaw}
+use Rattle.recording.specs.{Form.Form, GoodForm.GoodStep, GoodForm.GoodForm, GoodForm.GoodFormLaw}
 use Rattle.recording.specs.Layout.{header_at, step_at, header_size, file_length}
 use Rattle.recording.specs.Ticks.{steps_from, steps_of, total_ticks, ticks_of}
 use Rattle.recording.specs.Form.{header_test, step_test, steps_form, body_form, form_of}
@@ -17,8 +17,8 @@ each_more P i k first later zero h = rw (add-zero i) first
 each_more P i k first later (suc j) h = let z : i + suc j ≡ suc i + j = omega arith in rw z (later j (omega arith))
 
 -- Each of the k steps from step i on passed its test.
-steps_passed : (file : List ℕ) (k i : ℕ) (rest : Form) (n : ℕ) → steps_form i (steps_from file i k) rest ≡ Good n
-    → ((j : ℕ) → j < k → GoodStep (step_at file (i + j))) × (rest ≡ Good n)
+steps_passed : (file : List ℕ) (k i : ℕ) (rest : Form) (n : ℕ) → steps_form i (steps_from file i k) rest ≡ Ok n
+    → ((j : ℕ) → j < k → GoodStep (step_at file (i + j))) × (rest ≡ Ok n)
 unfolding steps_form steps_from
 steps_passed file zero i rest n e = (λ j h. absurd (omega arith), e)
 steps_passed file (suc k) i rest n e =
@@ -26,7 +26,7 @@ steps_passed file (suc k) i rest n e =
     let later = steps_passed file k (suc i) rest n first.1 in
     (each_more (λ (j : ℕ). GoodStep (step_at file j)) i k (step_passed _ first.0) later.0, later.1)
 
-is_good : (file : List ℕ) (n : ℕ) → form_of file ≡ Good n → GoodForm file n
+is_good : (file : List ℕ) (n : ℕ) → form_of file ≡ Ok n → GoodForm file n
 unfolding form_of body_form steps_of ticks_of
 is_good file n e =
     let h = header_at file in
@@ -56,7 +56,7 @@ steps_pass file (suc k) i rest good =
     rw (good_step_passes (step_at file i) (good i (omega arith) (omega arith)))
     (steps_pass file k (suc i) rest (λ j a b. good j (omega arith) (omega arith)))
 
-is_not_refused : (file : List ℕ) (n : ℕ) → GoodForm file n → form_of file ≡ Good n
+is_not_refused : (file : List ℕ) (n : ℕ) → GoodForm file n → form_of file ≡ Ok n
 unfolding form_of body_form steps_of ticks_of
 is_not_refused file n good =
     let h = header_at file in

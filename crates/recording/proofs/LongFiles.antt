@@ -1,11 +1,11 @@
 -- Why the beginning decides for a file longer than any recording. Assumes nothing.
-use Rattle.std.specs.Prelude.{ℕ, zero, suc, ◌+◌, ◌<◌, Bool, true, false, List, [], ◌∷◌, ◌++◌, length, ◌≡◌, ltb, if◌then◌else◌}
+use Rattle.std.specs.Prelude.{ℕ, Ok, Err, zero, suc, ◌+◌, ◌<◌, Bool, true, false, List, [], ◌∷◌, ◌++◌, length, ◌≡◌, ltb, if◌then◌else◌}
 use Rattle.answer.specs.Basics.{differs}
 use mathlib.Core.Path.{refl}
 use native.Mathlib.Omega.{arith}
 use lib.ListN.{length-append}
 use borrow.Author.Tests.{ltb-false, le-ltb, ne_eqb}
-use Rattle.recording.specs.{Types.Header, Types.Passed, Types.Failed, Form.header_test, Form.form_of, LongFiles.longest_recording}
+use Rattle.recording.specs.{Types.Header, Form.Test, Form.header_test, Form.form_of, LongFiles.longest_recording}
 use Rattle.recording.specs.{LongFiles.long_refusal, LongFiles.LongFormLaw}
 use Rattle.recording.specs.Layout.{byte_at, u16_at, u32_at, header_at, header_size, good_version, most_steps, file_length}
 use Rattle.answer.specs.Types.{WrongVersion, TooManySteps, WrongOffset, WrongLength}
@@ -33,16 +33,16 @@ module _ (b r : List ℕ) (long : longest_recording < length b) where
 
 -- The last test fails where that of the step count did not.
 chain : (version many offset field size : Bool) → (many ≡ false → size ≡ true)
-    → (if version then Failed WrongVersion else if many then Failed TooManySteps else if offset then Failed WrongOffset else
-    if field then Failed WrongLength else if size then Failed WrongLength else Passed)
-    ≡ Failed (if version then WrongVersion else if many then TooManySteps else if offset then WrongOffset else WrongLength)
+    → ◌≡◌ {A = Test} (if version then Err WrongVersion else if many then Err TooManySteps else if offset then Err WrongOffset else
+    if field then Err WrongLength else if size then Err WrongLength else Ok tt)
+    (Err (if version then WrongVersion else if many then TooManySteps else if offset then WrongOffset else WrongLength))
 chain true many offset field size h = refl
 chain false true offset field size h = refl
 chain false false true field size h = refl
 chain false false false true size h = refl
 chain false false false false size h = rw (h refl)
 
-header_fails : (h : Header) (size : ℕ) → longest_recording < size → header_test h size ≡ Failed (long_refusal h)
+header_fails : (h : Header) (size : ℕ) → longest_recording < size → header_test h size ≡ Err (long_refusal h)
 unfolding header_test long_refusal
 header_fails h size long =
     chain (differs h.version good_version) (ltb most_steps h.steps) (differs h.offset header_size)

@@ -1,9 +1,9 @@
 -- A header and a step pass their tests exactly if they are good. Assumes nothing.
-use Rattle.std.specs.Prelude.{ℕ, ◌≤◌, ◌≡◌, eqb, ltb, leb}
+use Rattle.std.specs.Prelude.{ℕ, Ok, ◌≤◌, ◌≡◌, eqb, ltb, leb}
 use Rattle.answer.specs.Basics.{differs}
 use native.Mathlib.Omega.{arith}
 use borrow.Author.Tests.{ltb-false, leb-false, eqb-false, le-ltb, lt-leb, eq-eqb, ne_eqb}
-use Rattle.recording.specs.{Types.Header, Types.Step, Types.Passed, Form.header_test, Form.step_test, GoodForm.GoodStep}
+use Rattle.recording.specs.{Types.Header, Types.Step, Form.header_test, Form.step_test, GoodForm.GoodStep}
 use Rattle.recording.specs.Layout.{header_size, good_version, most_steps, line_bound, mark, file_length}
 use Rattle.recording.proofs.Tests.{passed_on, same}
 
@@ -14,7 +14,7 @@ pub record GoodHeader (h : Header) (size : ℕ) : Type 0 where
   pub says_length : h.length ≡ file_length h.steps
   pub whole : size ≡ file_length h.steps
 
-pub header_passed : (h : Header) (size : ℕ) → header_test h size ≡ Passed → GoodHeader h size
+pub header_passed : (h : Header) (size : ℕ) → header_test h size ≡ Ok tt → GoodHeader h size
 unfolding header_test
 header_passed h size e =
     let version = passed_on (differs h.version good_version) _ _ e in
@@ -30,7 +30,7 @@ header_passed h size e =
       whole = same _ _ true-length.0;
     }
 
-pub good_header_passes : (h : Header) (size : ℕ) → GoodHeader h size → header_test h size ≡ Passed
+pub good_header_passes : (h : Header) (size : ℕ) → GoodHeader h size → header_test h size ≡ Ok tt
 unfolding header_test
 good_header_passes h size good =
     rw (
@@ -41,7 +41,7 @@ good_header_passes h size good =
       eq-eqb size (file_length h.steps) good.whole,
     )
 
-pub step_passed : (s : Step) → step_test s ≡ Passed → GoodStep s
+pub step_passed : (s : Step) → step_test s ≡ Ok tt → GoodStep s
 unfolding step_test
 step_passed s e =
     let duration = passed_on (eqb s.duration 0) _ _ e in
@@ -50,7 +50,7 @@ step_passed s e =
     let some : s.duration ≡ 0 → ⊥ = eqb-false _ _ duration.0 in
     record { lasts = omega arith; four_bits = leb-false _ _ lines.0; mark_at_most = ltb-false _ _ last.0 }
 
-pub good_step_passes : (s : Step) → GoodStep s → step_test s ≡ Passed
+pub good_step_passes : (s : Step) → GoodStep s → step_test s ≡ Ok tt
 unfolding step_test
 good_step_passes s good =
     let some : s.duration ≡ 0 → ⊥ = λ z. omega (arith, good.lasts, z) in

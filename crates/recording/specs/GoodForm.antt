@@ -1,6 +1,6 @@
 -- What holds of a recording of good form.
-use Rattle.std.specs.Prelude.{ℕ, ◌≤◌, ◌<◌, List, length, ◌≡◌, ◌↔◌}
-use Rattle.recording.specs.{Types.Good, Types.Step, Form.form_of, Ticks.ticks_of}
+use Rattle.std.specs.Prelude.{ℕ, Ok, ◌≤◌, ◌<◌, List, length, ◌≡◌, ◌↔◌}
+use Rattle.recording.specs.{Types.Step, Form.form_of, Ticks.ticks_of}
 use Rattle.recording.specs.Layout.{byte_at, header_at, step_at, header_size, good_version, most_steps, line_bound, mark, file_length}
 
 -- No refusal 6 or 7.
@@ -23,7 +23,7 @@ pub record GoodForm (file : List ℕ) (n : ℕ) : Type 0 where
 
 -- A recording is not refused, and has n steps, exactly if it is of good form with n steps.
 abbrev pub GoodFormLaw : Type 0
-GoodFormLaw = (file : List ℕ) (n : ℕ) → (form_of file ≡ Good n) ↔ GoodForm file n
+GoodFormLaw = (file : List ℕ) (n : ℕ) → (form_of file ≡ Ok n) ↔ GoodForm file n
 
 -- A list that stands for bytes, as the contents of a lent file do.
 abbrev pub Bytes : List ℕ → Type 0

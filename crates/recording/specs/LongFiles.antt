@@ -2,7 +2,7 @@
 -- one byte more than the longest recording has.
 use Rattle.std.specs.Prelude.{ℕ, ◌<◌, List, ◌++◌, length, ◌≡◌, ltb, if◌then◌else◌}
 use Rattle.answer.specs.Basics.{differs}
-use Rattle.recording.specs.{Types.Header, Types.Refused, Form.form_of}
+use Rattle.recording.specs.{Types.Header, Form.form_of, Form.refused_at}
 use Rattle.recording.specs.Layout.{header_at, header_size, good_version, most_steps, file_length}
 use Rattle.answer.specs.Types.{Refusal, WrongVersion, TooManySteps, WrongOffset, WrongLength}
 
@@ -20,4 +20,4 @@ long_refusal h =
 
 abbrev pub LongFormLaw : Type 0
 LongFormLaw = (beginning rest : List ℕ) → longest_recording < length beginning
-    → form_of (beginning ++ rest) ≡ Refused (long_refusal (header_at beginning)) 0
+    → form_of (beginning ++ rest) ≡ refused_at (long_refusal (header_at beginning)) 0

@@ -5,7 +5,6 @@ ghost use Rattle.recording.specs.{Layout.header_at, Layout.header_size, Form.hea
 
 use crate::fields;
 use crate::step::Step;
-use crate::test::Test;
 use answer::Refusal;
 
 #[derive(Clone, Copy)]
@@ -65,34 +64,34 @@ impl Header {
         requires { header_size ≤ length destination.old }
         ensures { destination.new ≡ sets destination.old 0 (header_bytes self) }
     {
-        fields::put_u16(destination, 0, self.version);
-        fields::put_u16(destination, 2, self.steps);
-        fields::put_u32(destination, 4, self.offset);
-        fields::put_u32(destination, 8, self.total);
-        fields::put_u32(destination, 12, self.length);
+        fields::put(destination, 0, self.version.to_le_bytes());
+        fields::put(destination, 2, self.steps.to_le_bytes());
+        fields::put(destination, 4, self.offset.to_le_bytes());
+        fields::put(destination, 8, self.total.to_le_bytes());
+        fields::put(destination, 12, self.length.to_le_bytes());
     }
 
     // Refusals 2 to 5; `size` is the file's true length.
     #[tactic(auto, using(crate::proofs::Tests::tests), unfolding(crate::specs::Form::header_test))]
-    pub(crate) fn test(self, size: usize) -> Test
+    pub(crate) fn test(self, size: usize) -> Result<(), Refusal>
         ensures { result ≡ header_test self size }
     {
         if self.version != Header::VERSION {
-            return Test::Failed(Refusal::WrongVersion);
+            return Err(Refusal::WrongVersion);
         }
         if Header::MOST_STEPS < self.steps {
-            return Test::Failed(Refusal::TooManySteps);
+            return Err(Refusal::TooManySteps);
         }
         if self.offset as usize != Header::SIZE {
-            return Test::Failed(Refusal::WrongOffset);
+            return Err(Refusal::WrongOffset);
         }
         let length = Header::SIZE + Step::SIZE * (self.steps as usize);
         if self.length as usize != length {
-            return Test::Failed(Refusal::WrongLength);
+            return Err(Refusal::WrongLength);
         }
         if size != length {
-            return Test::Failed(Refusal::WrongLength);
+            return Err(Refusal::WrongLength);
         }
-        Test::Passed
+        Ok(())
     }
 }

@@ -3,10 +3,11 @@
 
 mod fields;
 mod form;
+mod good_form;
 mod header;
 mod step;
-mod test;
 
-pub use crate::form::{Form, check_form};
+pub use crate::form::check_form;
+pub use crate::good_form::Recording;
 pub use crate::header::Header;
 pub use crate::step::Step;

@@ -5,7 +5,6 @@ ghost use Rattle.recording.specs.{Layout.step_at, Layout.step_place, Layout.step
 
 use crate::fields;
 use crate::header::Header;
-use crate::test::Test;
 use answer::Refusal;
 
 #[derive(Clone, Copy)]
@@ -42,7 +41,7 @@ impl Step {
         ensures { destination.new ≡ sets destination.old (step_place index) (step_bytes self) }
     {
         let at = Header::SIZE + Step::SIZE * index;
-        fields::put_u16(destination, at, self.duration);
+        fields::put(destination, at, self.duration.to_le_bytes());
         destination[at + 2] = self.lines;
         destination[at + 3] = self.last;
     }
@@ -56,18 +55,18 @@ impl Step {
 
     // Refusals 6 and 7.
     #[tactic(auto, using(crate::proofs::Tests::tests), unfolding(crate::specs::Form::step_test))]
-    pub(crate) fn test(self) -> Test
+    pub(crate) fn test(self) -> Result<(), Refusal>
         ensures { result ≡ step_test self }
     {
         if self.duration == 0 {
-            return Test::Failed(Refusal::ZeroDuration);
+            return Err(Refusal::ZeroDuration);
         }
         if Step::LINE_BOUND <= self.lines {
-            return Test::Failed(Refusal::StrayBits);
+            return Err(Refusal::StrayBits);
         }
         if Step::MARK < self.last {
-            return Test::Failed(Refusal::StrayBits);
+            return Err(Refusal::StrayBits);
         }
-        Test::Passed
+        Ok(())
     }
 }

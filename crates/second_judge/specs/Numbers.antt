@@ -1,10 +1,17 @@
--- The numbers that a judge may give, from document 01's "Numbers and what they leave" and document 02's #101 and #103, and
--- those that the reading goes through, from `src/phase.rt`. A further number is a further place in a list. Assumes nothing.
-use Rattle.std.specs.Prelude.{ℕ, cond, eqb, List, [], ◌∷◌, ◌++◌, ◌≡◌}
+-- The numbers that a judge may give, from document 01's "Numbers and what they leave" and document 02's #101 and #103. A
+-- further number is a further place in a list. Assumes nothing.
+use Rattle.std.specs.Prelude.{ℕ, cond, eqb, List, [], ◌∷◌, ◌++◌}
 use Rattle.second_judge.specs.declared.entry.Entry.{Entry}
 use Rattle.second_judge.specs.declared.entry.Entry.TheVariants.{Plain, Command}
+use Rattle.second_judge.specs.declared.numbers.Verdict.{Verdict}
+use Rattle.second_judge.specs.declared.numbers.Verdict.TheVariants.{Complete, EmptyStream, Cut, Attention, NoReceiver}
+use Rattle.second_judge.specs.declared.numbers.Verdict.TheVariants.{BadStart, OutOfTurn, EndMarkNotAcknowledged}
+use Rattle.second_judge.specs.declared.numbers.Verdict.TheVariants.{AcknowledgementShort, AcknowledgementLong, LateClock}
+use Rattle.second_judge.specs.declared.numbers.Verdict.TheVariants.{SenderTimeOut, ValidTimeShort, DataMoved, ClockStall}
+use Rattle.second_judge.specs.declared.numbers.Verdict.TheVariants.{ReceiverTimeOut, Hurried, MovedAfterTheEnd}
+use Rattle.second_judge.specs.declared.numbers.Verdict.TheVariants.{EndMarkUnderAttention, AttentionReleased, Overrun}
 
--- The number is one of the list's. Where nothing may be due yet, a contract adds 0, which is no number of document 01.
+-- The number is one of the list's.
 abbrev pub Among : List ℕ → ℕ → Type 0
 Among [] n = ⊥
 Among (one ∷ others) n = cond (eqb n one) Unit (Among others n)
@@ -35,49 +42,30 @@ while_reading entry = of_both ++ of_one entry
 abbrev pub verdicts : Entry → List ℕ
 verdicts entry = 20 ∷ 22 ∷ 40 ∷ while_reading entry
 
--- Where the reading stands after a tick, unless in E, with either entry: in another phase, 0 A start, 1 B hold,
--- 2 C ready to send, 3 D ready for data, 6 set-up, 7 valid, 8 carried, 9 open; or for good at a verdict.
-abbrev pub standing_both : List ℕ
-standing_both = 0 ∷ 1 ∷ 2 ∷ 3 ∷ 6 ∷ 7 ∷ 8 ∷ 9 ∷ of_both
+-- The number of each verdict, as `src/numbers.rt` has it.
+abbrev pub number_of : Verdict → ℕ
+number_of Complete = 20
+number_of EmptyStream = 21
+number_of Cut = 22
+number_of Attention = 23
+number_of NoReceiver = 24
+number_of BadStart = 25
+number_of OutOfTurn = 26
+number_of EndMarkNotAcknowledged = 27
+number_of AcknowledgementShort = 28
+number_of AcknowledgementLong = 29
+number_of LateClock = 30
+number_of SenderTimeOut = 31
+number_of ValidTimeShort = 32
+number_of DataMoved = 33
+number_of ClockStall = 34
+number_of ReceiverTimeOut = 35
+number_of Hurried = 36
+number_of MovedAfterTheEnd = 37
+number_of EndMarkUnderAttention = 38
+number_of AttentionReleased = 39
+number_of Overrun = 40
 
--- 4 F acknowledgement and 5 G, the phases that only an end mark leads to
-abbrev pub after_end_mark : List ℕ
-after_end_mark = 4 ∷ 5 ∷ []
-
--- And with one entry alone: in one of those, or for good at a verdict.
-abbrev pub standing_one : Entry → List ℕ
-standing_one Plain = after_end_mark ++ of_one Plain
-standing_one Command = of_one Command
-
-abbrev pub standing : Entry → List ℕ
-standing entry = standing_both ++ standing_one entry
-
--- "E end", the phase in which the recording running out is no cut; with #101, after the finish
-abbrev pub the_end : ℕ
-the_end = 10
-
-abbrev pub stay : ℕ
-stay = 11
-
--- What a tick leads to, unless to E: there, or 11 to stay, 12 to C with a byte handed over, 13 "open from here".
-abbrev pub leading_both : List ℕ
-leading_both = stay ∷ 12 ∷ 13 ∷ standing_both
-
-abbrev pub leading : Entry → List ℕ
-leading entry = leading_both ++ standing_one entry
-
--- the finish of #101, which leads to E and "hands the last byte over"
-abbrev pub finish : ℕ
-finish = 14
-
--- What leads to E: 10 from C, after an end mark; 14.
-abbrev pub ending : List ℕ
-ending = the_end ∷ finish ∷ []
-
--- Where the reading stands after a tick that leads to `next`, having stood at `before`: with either entry at what that
--- entry may stand at; in E only if it stays there or comes there.
-pub record Follows (before next after : ℕ) : Type 0 where
-  pub stands : (entry : Entry) → Among (the_end ∷ standing entry) before → Among (ending ++ leading entry) next
-      → Among (the_end ∷ standing entry) after
-  pub stayed : after ≡ the_end → next ≡ stay → before ≡ the_end
-  pub came : after ≡ the_end → (next ≡ stay → ⊥) → Among ending next
+-- The verdict's number is one of the list's.
+abbrev pub Gives : List ℕ → Verdict → Type 0
+Gives list verdict = Among list (number_of verdict)

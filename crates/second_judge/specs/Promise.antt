@@ -7,7 +7,7 @@ use Rattle.second_judge.specs.Numbers.{Among, refusals, verdicts, while_reading}
 use Rattle.second_judge.specs.Recording.{step_count, total_ticks, lines, AtRest, Marked, Unmarked, ticks}
 
 -- "All further places keep what they held."
-pub record Kept (further : ℕ) (before after : List ℕ) : Type 0 where
+pub record Kept {A : Type 0} (further : ℕ) (before after : List A) : Type 0 where
   pub as_long : length after ≡ length before
   pub the_same : drop further after ≡ drop further before
 

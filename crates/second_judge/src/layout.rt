@@ -1,6 +1,6 @@
 // "Recording layout": a header of 16 bytes, then steps of 4 bytes, little-endian.
 ghost use Rattle.std.specs.Prelude.{◌≡◌, ◌+◌, ◌*◌, ◌≤◌, ◌<◌, length};
-ghost use Rattle.second_judge.specs.Recording.{two_bytes, four_bytes, duration, lines, mark};
+ghost use Rattle.second_judge.specs.Recording.{two_bytes, four_bytes, duration, lines, mark, step_count, total_ticks};
 
 pub const HEADER_BYTES: usize = 16;
 
@@ -14,37 +14,44 @@ pub const MOST_STEPS: u32 = 16000;
 pub const OFFSET: u32 = 16;
 
 // #103: "The recorder now marks a step before which ticks were lost: its last byte is 1." The last byte of others is 0.
-pub const MARKED: u32 = 1;
+pub const MARKED: u8 = 1;
 
-// The header's fields, by their first byte.
-pub const VERSION_AT: usize = 0;
-
-pub const STEP_COUNT_AT: usize = 2;
-
-pub const OFFSET_AT: usize = 4;
-
-pub const TOTAL_TICKS_AT: usize = 8;
-
-pub const FILE_LENGTH_AT: usize = 12;
-
-fn wide(byte: u8) -> u32
-    ensures { (result ≡ byte) × (result < 256) }
-{
-    byte as u32
-}
-
-pub fn two_bytes(file: &[u8], at: usize) -> u32
+// Two readers and not one over the length: `from_le_bytes` is a method of each number type, and in no trait.
+fn two_bytes(file: &[u8], at: usize) -> u32
     requires { at + 2 ≤ length file.now }
     ensures { (result ≡ two_bytes file.now at) × (result < 65536) }
 {
-    wide(file[at]) + 256 * wide(file[at + 1])
+    u16::from_le_bytes([file[at], file[at + 1]]) as u32
 }
 
-pub fn four_bytes(file: &[u8], at: usize) -> u32
+fn four_bytes(file: &[u8], at: usize) -> u32
     requires { at + 4 ≤ length file.now }
     ensures { result ≡ four_bytes file.now at }
 {
-    two_bytes(file, at) + 65536 * two_bytes(file, at + 2)
+    u32::from_le_bytes([file[at], file[at + 1], file[at + 2], file[at + 3]])
+}
+
+// "8-11 total ticks, the sum of all durations; 12-15 file length, 16+4n".
+#[derive(Drop)]
+pub struct Header {
+    pub version: u32,
+    pub steps: u32,
+    pub offset: u32,
+    pub total_ticks: u32,
+    pub file_length: u32,
+}
+
+pub fn header_of(file: &[u8]) -> Header
+    requires { 16 ≤ length file.now }
+    ensures { (result.steps ≡ step_count file.now) × (result.steps < 65536) × (result.total_ticks ≡ total_ticks file.now) }
+{
+    Header {
+        version: two_bytes(file, 0),
+        steps: two_bytes(file, 2),
+        offset: four_bytes(file, 4),
+        total_ticks: four_bytes(file, 8),
+        file_length: four_bytes(file, 12),
+    }
 }
 
 // "file length, 16+4n": also where the step after the first n ones would begin.
@@ -59,8 +66,8 @@ pub fn length_for(steps: u32) -> u32
 #[derive(Drop)]
 pub struct Step {
     pub duration: u32,
-    pub lines: u32,
-    pub mark: u32,
+    pub lines: u8,
+    pub mark: u8,
 }
 
 pub fn step_at(file: &[u8], step: u32) -> Step
@@ -71,7 +78,7 @@ pub fn step_at(file: &[u8], step: u32) -> Step
     let at = length_for(step) as usize;
     Step {
         duration: two_bytes(file, at),
-        lines: wide(file[at + 2]),
-        mark: wide(file[at + 3]),
+        lines: file[at + 2],
+        mark: file[at + 3],
     }
 }

@@ -5,6 +5,8 @@
 // document was read in one of several ways.
 #![tactic(auto)]
 
+ghost use Rattle.std.specs.Prelude.{◌≡◌};
+ghost use Rattle.second_judge.specs.Numbers.{Among, refusals};
 ghost use Rattle.second_judge.specs.Promise.{Answered};
 
 mod attention;
@@ -25,17 +27,32 @@ mod refusals;
 mod rows;
 mod storing;
 mod testing;
+mod tick;
 mod trying;
 
 use entry::Entry;
+use refusals::Refused;
 
-// "An answer is a number, a tick, a step and a count."
-#[derive(Clone, Copy)]
+// "An answer is a number, a tick, a step and a count." The number is no enum here, since both entries hand it out as it is.
+#[derive(Clone, Copy, PartialEq, Eq)]
 pub struct Finding {
     pub number: u32,
     pub tick: u32,
     pub step: u32,
     pub count: u32,
+}
+
+impl From<Refused> for Finding {
+    ghost from_gives = { λ _ finding. Among refusals finding.number × (finding.tick ≡ 0) × (finding.count ≡ 0) };
+
+    fn from(refused: Refused) -> Finding {
+        Finding {
+            number: refused.refusal as u32,
+            tick: 0,
+            step: refused.step,
+            count: 0,
+        }
+    }
 }
 
 // A refusal or a verdict of document 01. "Every refusal has tick 0 and count 0, .. and no lent byte or number changes":
@@ -64,14 +81,8 @@ fn judge(entry: Entry, file: &[u8], bytes: &mut [u8], ledger: &mut [u32]) -> Fin
     ensures { Answered entry result file.now bytes.old bytes.new
         ledger.old ledger.new }
 {
-    let tested = refusals::test(file, bytes.len(), ledger.len());
-    if tested.number != numbers::NONE {
-        return Finding {
-            number: tested.number,
-            tick: 0,
-            step: tested.step,
-            count: 0,
-        };
+    match refusals::test(file, bytes.len(), ledger.len()) {
+        Ok(steps) => reading::read_steps(entry, file, steps, bytes, ledger),
+        Err(refused) => Finding::from(refused),
     }
-    reading::read_steps(entry, file, tested.steps, bytes, ledger)
 }

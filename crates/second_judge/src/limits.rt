@@ -47,6 +47,3 @@ pub const CARRIED_TAKE: u32 = 1;
 
 // "Bits, eight".
 pub const BITS: u32 = 8;
-
-// No recording lasts so long: its total ticks are a number of four bytes.
-pub const NO_LIMIT: u32 = 4294967295;

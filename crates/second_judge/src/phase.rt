@@ -1,34 +1,59 @@
-// "The judge's phases". What a tick leads to is one number too: one of these, one of the four at the end, or from 20
-// on a verdict, at which the reading "stops for good".
+// "The judge's phases", and what a tick leads to.
+ghost use Rattle.std.specs.Prelude.{◌≡◌};
+ghost use Rattle.second_judge.specs.Phases.{phase_after};
 
-// A.
-pub const START: u32 = 0;
-// B.
-pub const HOLD: u32 = 1;
-// C.
-pub const READY_TO_SEND: u32 = 2;
-// D.
-pub const READY_FOR_DATA: u32 = 3;
-// F.
-pub const ACKNOWLEDGEMENT: u32 = 4;
-// G, which has no name in document 01: the acknowledgement is over, the clock is awaited.
-pub const ACKNOWLEDGED: u32 = 5;
-// Bits: CLK pulled, DATA free.
-pub const SET_UP: u32 = 6;
-// Bits: CLK released, DATA steady.
-pub const VALID: u32 = 7;
-// Handover: "bit 8 one, DATA pulled without a break".
-pub const CARRIED: u32 = 8;
-// Handover: "DATA has been seen released".
-pub const OPEN: u32 = 9;
-// E; in a command recording, after the finish.
-pub const END: u32 = 10;
+#[derive(Clone, Copy)]
+pub enum Phase {
+    // A.
+    Start,
+    // B.
+    Hold,
+    // C.
+    ReadyToSend,
+    // D.
+    ReadyForData,
+    // F.
+    Acknowledgement,
+    // G, which has no name in document 01: the acknowledgement is over, the clock is awaited.
+    Acknowledged,
+    // Bits: CLK pulled, DATA free.
+    SetUp,
+    // Bits: CLK released, DATA steady.
+    Valid,
+    // Handover: "bit 8 one, DATA pulled without a break".
+    Carried,
+    // Handover: "DATA has been seen released".
+    Open,
+    // E; in a command recording, after the finish.
+    End,
+}
 
-// What a tick may lead to besides a phase: "stay".
-pub const STAY: u32 = 11;
-// To C, "after a byte hands that byte over".
-pub const HAND_OVER: u32 = 12;
-// From carried to open: "open from here".
-pub const OPEN_FROM_HERE: u32 = 13;
-// To E by the finish of #101, which "hands the last byte over".
-pub const FINISH: u32 = 14;
+// What a tick leads to, unless to a verdict, at which the reading "stops for good".
+#[derive(Clone, Copy)]
+pub enum Next {
+    // "stay".
+    Stay,
+    // "go to".
+    Go(Phase),
+    // To C, "after a byte hands that byte over".
+    HandOver,
+    // From carried to open: "open from here".
+    OpenFromHere,
+    // To E by the finish of #101, which "hands the last byte over".
+    Finish,
+}
+
+impl Phase {
+    // The phase after a tick that is read in this one.
+    pub fn after(self, next: Next) -> Phase
+        ensures { result ≡ phase_after self next }
+    {
+        match next {
+            Next::Stay => self,
+            Next::Go(phase) => phase,
+            Next::HandOver => Phase::ReadyToSend,
+            Next::OpenFromHere => Phase::Open,
+            Next::Finish => Phase::End,
+        }
+    }
+}

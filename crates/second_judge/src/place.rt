@@ -1,12 +1,14 @@
 // Where the reading stands: the phase, and the ticks that matter.
 ghost use Rattle.std.specs.Prelude.{◌≡◌, ◌≤◌};
-ghost use Rattle.second_judge.specs.Numbers.{Follows};
+ghost use Rattle.second_judge.specs.Phases.{phase_after};
 
-use crate::{limits, phase};
+use crate::limits;
+use crate::phase::{Next, Phase};
 
+// Where an entry may stand is asked in clauses, and not a ghost field here: a struct with one takes no `..self`.
 #[derive(Clone, Copy)]
 pub struct Place {
-    pub phase: u32,
+    pub phase: Phase,
     // "Offsets count from a phase's first tick, the one that leads into it"; in carried and open, from the CLK pull
     // after bit 8.
     pub since: u32,
@@ -20,62 +22,54 @@ pub struct Place {
     pub take: u32,
 }
 
-pub fn place_of(
-    phase: u32,
-    since: u32,
-    since_step: u32,
-    ready_for_data: u32,
-    let_go: u32,
-    take: u32,
-) -> Place
-    ensures { (result.phase ≡ phase) × (result.since ≡ since) × (result.since_step ≡ since_step) }
-{
-    Place {
-        phase,
-        since,
-        since_step,
-        ready_for_data,
-        let_go,
-        take,
-    }
-}
+impl Place {
+    // Before the first tick.
+    pub const FIRST: Place = Place {
+        phase: Phase::Start,
+        since: 0,
+        since_step: 0,
+        ready_for_data: 0,
+        let_go: 0,
+        take: 0,
+    };
 
-// The place after this tick of this step. Carried: "take and letting go both at offset 1", unless DATA is seen released
-// later and both are set anew.
-pub fn after(before: Place, next: u32, tick: u32, step: u32) -> Place
-    requires { (before.since ≤ tick) × (before.since_step ≤ step) × (tick ≤ 2000000000) }
-    ensures in_time { (result.since ≤ tick) × (result.since_step ≤ step) }
-    ensures follows { Follows before.phase next result.phase }
-{
-    let ready_for_data = before.ready_for_data;
-    let let_go = before.let_go;
-    let take = before.take;
-    match next {
-        phase::STAY => before,
-        phase::HOLD => place_of(phase::HOLD, tick, step, ready_for_data, let_go, tick),
-        phase::HAND_OVER => place_of(
-            phase::READY_TO_SEND,
-            tick,
-            step,
-            ready_for_data,
-            let_go,
-            take,
-        ),
-        phase::FINISH => place_of(phase::END, tick, step, ready_for_data, let_go, take),
-        phase::READY_FOR_DATA => place_of(phase::READY_FOR_DATA, tick, step, tick, let_go, take),
-        phase::CARRIED => {
-            let both = tick + limits::CARRIED_TAKE;
-            place_of(phase::CARRIED, tick, step, ready_for_data, both, both)
+    // The place after this tick of this step. Carried: "take and letting go both at offset 1", unless DATA is seen
+    // released later and both are set anew.
+    pub fn after(self, next: Next, tick: u32, step: u32) -> Place
+        requires { (self.since ≤ tick) × (self.since_step ≤ step) × (tick ≤ 2000000000) }
+        ensures in_time { (result.since ≤ tick) × (result.since_step ≤ step) }
+        ensures follows { result.phase ≡ phase_after self.phase next }
+    {
+        let phase = self.phase.after(next);
+        let here = Place {
+            phase,
+            since: tick,
+            since_step: step,
+            ..self
+        };
+        let both = tick + limits::CARRIED_TAKE;
+        match next {
+            Next::Stay => self,
+            Next::OpenFromHere => Place {
+                phase,
+                let_go: tick,
+                ..self
+            },
+            Next::Go(Phase::Hold) => Place { take: tick, ..here },
+            Next::Go(Phase::ReadyForData) => Place {
+                ready_for_data: tick,
+                ..here
+            },
+            Next::Go(Phase::Carried) => Place {
+                let_go: both,
+                take: both,
+                ..here
+            },
+            Next::Go(Phase::Open) => Place {
+                let_go: tick,
+                ..here
+            },
+            Next::Go(_) | Next::HandOver | Next::Finish => here,
         }
-        phase::OPEN => place_of(phase::OPEN, tick, step, ready_for_data, tick, take),
-        phase::OPEN_FROM_HERE => place_of(
-            phase::OPEN,
-            before.since,
-            before.since_step,
-            ready_for_data,
-            tick,
-            take,
-        ),
-        _ => place_of(next, tick, step, ready_for_data, let_go, take),
     }
 }

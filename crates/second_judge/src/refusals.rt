@@ -1,87 +1,68 @@
 // "Refusals, tested in this order": the header's and the lent memory's rows of the table.
-ghost use Rattle.std.specs.Prelude.{◌∷◌, ◌≡◌, ◌+◌, ◌*◌, ◌≤◌, ◌<◌};
-ghost use Rattle.second_judge.specs.Numbers.{Among, refusals};
+ghost use Rattle.std.specs.Prelude.{◌≡◌, ◌+◌, ◌*◌, ◌≤◌, ◌<◌, IfOk, OnOk};
 ghost use Rattle.second_judge.specs.Recording.{Passed};
 
-use crate::{layout, numbers, testing};
+use crate::layout::Header;
+use crate::numbers::Refusal;
+use crate::{layout, testing};
 
 // "byte buffer under 1,000 places, or ledger under 2,000".
 const BYTE_PLACES: usize = 1000;
 
 const LEDGER_PLACES: usize = 2000;
 
-// A refusal's number and step, or no number; and how many steps there are to read if it is none.
-#[derive(Drop)]
-pub struct Tested {
-    pub number: u32,
+// "Its step is the offending one for 6 and 7 and otherwise 0".
+#[derive(Clone, Copy)]
+pub struct Refused {
+    pub refusal: Refusal,
     pub step: u32,
-    pub steps: u32,
 }
 
-// "Its step is the offending one for 6 and 7 and otherwise 0". Nothing is to be read.
-pub fn refused(number: u32, step: u32) -> Tested
-    requires { Among (0 ∷ refusals) number }
-    ensures { (result.number ≡ number) × Among (0 ∷ refusals) result.number }
-{
-    Tested {
-        number,
-        step,
-        steps: 0,
+impl From<Refusal> for Refused {
+    fn from(refusal: Refusal) -> Refused {
+        Refused { refusal, step: 0 }
     }
 }
 
-// Row 1 of the table, and then the others.
-pub fn test(file: &[u8], byte_places: usize, ledger_places: usize) -> Tested
-    ensures { Among (0 ∷ refusals) result.number × (result.number ≡ 0 → Passed file.now result.steps) }
+// The table, row 1 first; how many steps there are to read if none is due.
+pub fn test(file: &[u8], byte_places: usize, ledger_places: usize) -> Result<u32, Refused>
+    ensures { IfOk result (Passed file.now) }
 {
     if file.len() < layout::HEADER_BYTES {
-        return refused(numbers::FEWER_THAN_16_BYTES, 0);
+        return Err(Refused::from(Refusal::FewerThan16Bytes));
     }
-    let version = layout::two_bytes(file, layout::VERSION_AT);
-    let steps = layout::two_bytes(file, layout::STEP_COUNT_AT);
-    let offset = layout::four_bytes(file, layout::OFFSET_AT);
-    let length = layout::four_bytes(file, layout::FILE_LENGTH_AT);
-    let number = header_refusal(version, steps, offset, length, file.len());
-    if number != numbers::NONE {
-        return refused(number, 0);
-    }
-    testing::test_steps(file, steps, room_refusal(byte_places, ledger_places))
+    let header = layout::header_of(file);
+    test_header(&header, file.len())?;
+    testing::test_steps(file, &header)?;
+    test_room(byte_places, ledger_places)?;
+    Ok(header.steps)
 }
 
 // Row 9.
-fn room_refusal(byte_places: usize, ledger_places: usize) -> u32
-    ensures { Among (0 ∷ refusals) result }
-{
-    if byte_places < BYTE_PLACES {
-        return numbers::TOO_FEW_PLACES;
+fn test_room(byte_places: usize, ledger_places: usize) -> Result<(), Refusal> {
+    if byte_places < BYTE_PLACES || ledger_places < LEDGER_PLACES {
+        return Err(Refusal::TooFewPlaces);
     }
-    if ledger_places < LEDGER_PLACES {
-        numbers::TOO_FEW_PLACES
-    } else {
-        numbers::NONE
-    }
+    Ok(())
 }
 
 // Rows 2 to 5.
-fn header_refusal(version: u32, steps: u32, offset: u32, length: u32, true_length: usize) -> u32
-    requires { steps < 65536 }
-    ensures { Among (0 ∷ refusals) result × (result ≡ 0 → (steps ≤ 16000) × (16 + 4 * steps ≤ true_length)) }
+fn test_header(header: &Header, true_length: usize) -> Result<(), Refusal>
+    requires { header.now.steps < 65536 }
+    ensures { OnOk result ((header.now.steps ≤ 16000) × (16 + 4 * header.now.steps ≤ true_length)) }
 {
-    if version != layout::VERSION {
-        return numbers::VERSION;
+    if header.version != layout::VERSION {
+        return Err(Refusal::Version);
     }
-    if layout::MOST_STEPS < steps {
-        return numbers::TOO_MANY_STEPS;
+    if layout::MOST_STEPS < header.steps {
+        return Err(Refusal::TooManySteps);
     }
-    if offset != layout::OFFSET {
-        return numbers::OFFSET;
+    if header.offset != layout::OFFSET {
+        return Err(Refusal::Offset);
     }
-    if length != layout::length_for(steps) {
-        return numbers::LENGTH;
+    let length = layout::length_for(header.steps);
+    if header.file_length != length || true_length != length as usize {
+        return Err(Refusal::Length);
     }
-    if true_length != length as usize {
-        numbers::LENGTH
-    } else {
-        numbers::NONE
-    }
+    Ok(())
 }

@@ -1,139 +1,117 @@
 // The rows of the phases but bits and handover, each for one tick of which ATN decides nothing, in document 01's order.
 // The limits on staying are not here but in patience.
-ghost use Rattle.std.specs.Prelude.{true, ◌∷◌, ◌≡◌};
-ghost use Rattle.second_judge.specs.Numbers.{Among, leading, leading_both, stay, the_end};
+ghost use Rattle.std.specs.Prelude.{false, ◌≡◌, OnOk};
+ghost use Rattle.second_judge.specs.Phases.{Leads, LeadsBoth};
 
 use crate::entry::Entry;
-use crate::{limits, lines, numbers, phase};
-
-// One thing below a limit, another from it on.
-pub fn by_limit(reached: u32, limit: u32, below: u32, from: u32) -> u32
-    requires { Among leading_both below × Among leading_both from }
-    ensures { Among leading_both result }
-{
-    if reached < limit { below } else { from }
-}
+use crate::limits;
+use crate::numbers::Verdict;
+use crate::phase::{Next, Phase};
+use crate::tick::Tick;
 
 // A: "Tick 0 with CLK released: 25. CLK released later: 26. (1,1): go to B. (1,0): stay". Tick 0 is A's offset 0.
 // A choice: at offset 256 too, CLK released is 26 and (1,1) goes to B; only (1,0) is 24 there.
-pub fn start(pulled: u32, offset: u32) -> u32
-    ensures { Among leading_both result }
+pub fn start(tick: Tick) -> Result<Next, Verdict>
+    ensures { LeadsBoth tick result }
 {
-    match pulled {
-        lines::BOTH => phase::HOLD,
-        lines::CLOCK => phase::STAY,
-        _ => by_limit(offset, 1, numbers::BAD_START, numbers::OUT_OF_TURN),
+    match (tick.lines.clock, tick.lines.data) {
+        (false, _) if tick.offset == 0 => Err(Verdict::BadStart),
+        (false, _) => Err(Verdict::OutOfTurn),
+        (true, true) => Ok(Next::Go(Phase::Hold)),
+        (true, false) => Ok(Next::Stay),
     }
 }
 
 // B: "(1,1): stay. (0,1): go to C; after a byte, only 100 or more ticks after its take (000), otherwise 36. DATA
 // released: 26." After a byte the hold's offset 0 is the take; before the first one nothing is asked of the hold.
 // A choice: DATA released is 26 with CLK pulled or released, and at every offset.
-pub fn hold(pulled: u32, offset: u32, bits: u32) -> u32
-    ensures { Among leading_both result }
+pub fn hold(tick: Tick) -> Result<Next, Verdict>
+    ensures { LeadsBoth tick result }
 {
-    match pulled {
-        lines::BOTH => phase::STAY,
-        lines::DATA => {
-            let after_a_byte = by_limit(
-                offset,
-                limits::HOLD_AFTER_TAKE,
-                numbers::HURRIED,
-                phase::HAND_OVER,
-            );
-            by_limit(bits, limits::BITS, phase::READY_TO_SEND, after_a_byte)
-        }
-        _ => numbers::OUT_OF_TURN,
+    match (tick.lines.clock, tick.lines.data) {
+        (true, true) => Ok(Next::Stay),
+        (false, true) if tick.bits < limits::BITS => Ok(Next::Go(Phase::ReadyToSend)),
+        (false, true) if tick.offset < limits::HOLD_AFTER_TAKE => Err(Verdict::Hurried),
+        (false, true) => Ok(Next::HandOver),
+        (_, false) => Err(Verdict::OutOfTurn),
     }
 }
 
 // C: "(0,1): stay, no limit (003). (0,0): go to D, or to the end E if the byte just handed over had the end mark. CLK
 // pulled: 26." Before the first byte no byte has the end mark.
-pub fn ready_to_send(pulled: u32, end_mark: bool) -> u32
-    ensures { Among (the_end ∷ leading_both) result × (result ≡ the_end → (pulled ≡ 0) × (end_mark ≡ true)) }
+pub fn ready_to_send(tick: Tick) -> Result<Next, Verdict>
+    ensures { LeadsBoth tick result }
 {
-    match pulled {
-        lines::DATA => phase::STAY,
-        lines::NEITHER => if end_mark {
-            phase::END
-        } else {
-            phase::READY_FOR_DATA
-        },
-        _ => numbers::OUT_OF_TURN,
+    match (tick.lines.clock, tick.lines.data) {
+        (false, true) => Ok(Next::Stay),
+        (false, false) if tick.end_mark => Ok(Next::Go(Phase::End)),
+        (false, false) => Ok(Next::Go(Phase::ReadyForData)),
+        (true, _) => Err(Verdict::OutOfTurn),
     }
 }
 
 // D: "CLK pulled at offset 1 to 199: bits, no end mark. CLK pulled later: 26. (0,1) before offset 200: 26.
 // (0,1) at 200 to 290 (H above 200): go to F, end mark. (0,0): stay".
-pub fn ready_for_data(entry: Entry, pulled: u32, offset: u32) -> u32
-    ensures { Among (leading entry) result }
+pub fn ready_for_data(entry: Entry, tick: Tick) -> Result<Next, Verdict>
+    ensures { Leads entry tick result }
 {
-    match pulled {
-        lines::NEITHER => phase::STAY,
-        lines::DATA => end_mark(entry, offset),
-        _ => by_limit(
-            offset,
-            limits::END_MARK_FROM,
-            phase::SET_UP,
-            numbers::OUT_OF_TURN,
-        ),
+    match (tick.lines.clock, tick.lines.data) {
+        (true, _) if tick.offset < limits::END_MARK_FROM => Ok(Next::Go(Phase::SetUp)),
+        (true, _) => Err(Verdict::OutOfTurn),
+        (false, true) => end_mark(entry, tick),
+        (false, false) => Ok(Next::Stay),
     }
 }
 
 // D's (0,1). #101 goes "without .. end mark", and in a command recording D never lasts to offset 200.
 // A choice: offset 290 showing (0,1) still goes to F, since its row comes before that of 27, which is for (0,0). In a
 // command recording offset 199 is 26 with (0,1) and goes to bits with CLK pulled; 38 is for (0,0).
-fn end_mark(entry: Entry, offset: u32) -> u32
-    ensures { Among (leading entry) result }
+fn end_mark(entry: Entry, tick: Tick) -> Result<Next, Verdict>
+    ensures { Leads entry tick result }
 {
     match entry {
-        Entry::Plain => if offset < limits::END_MARK_FROM {
-            numbers::OUT_OF_TURN
-        } else {
-            phase::ACKNOWLEDGEMENT
-        },
-        Entry::Command => numbers::OUT_OF_TURN,
+        Entry::Plain if limits::END_MARK_FROM <= tick.offset => Ok(Next::Go(
+            Phase::Acknowledgement,
+        )),
+        Entry::Plain | Entry::Command => Err(Verdict::OutOfTurn),
     }
 }
 
 // F: "CLK pulled: 26. (0,1): stay. (0,0): before offset 60 it is 28, otherwise go to G."
 // A choice: offset 150 showing (0,0) goes to G; 29 is for (0,1).
-pub fn acknowledgement(pulled: u32, offset: u32) -> u32
-    ensures { Among (leading Entry.Plain) result }
+pub fn acknowledgement(tick: Tick) -> Result<Next, Verdict>
+    ensures { Leads Entry.Plain tick result }
 {
-    match pulled {
-        lines::DATA => phase::STAY,
-        lines::NEITHER => if offset < limits::ACKNOWLEDGEMENT_FROM {
-            numbers::ACKNOWLEDGEMENT_SHORT
-        } else {
-            phase::ACKNOWLEDGED
-        },
-        _ => numbers::OUT_OF_TURN,
+    match (tick.lines.clock, tick.lines.data) {
+        (true, _) => Err(Verdict::OutOfTurn),
+        (false, true) => Ok(Next::Stay),
+        (false, false) if tick.offset < limits::ACKNOWLEDGEMENT_FROM => Err(
+            Verdict::AcknowledgementShort,
+        ),
+        (false, false) => Ok(Next::Go(Phase::Acknowledged)),
     }
 }
 
 // G: "(0,1): 26. CLK pulled: at offset up to 60 bits (003), later 30. (0,0): stay".
 // A choice: CLK pulled 512 ticks after D's first tick is 30, its row standing before that of the time-out.
-pub fn acknowledged(pulled: u32, offset: u32) -> u32
-    ensures { Among (leading Entry.Plain) result }
+pub fn acknowledged(tick: Tick) -> Result<Next, Verdict>
+    ensures { Leads Entry.Plain tick result }
 {
-    match pulled {
-        lines::DATA => numbers::OUT_OF_TURN,
-        lines::NEITHER => phase::STAY,
-        _ => if limits::CLOCK_UP_TO < offset {
-            numbers::LATE_CLOCK
-        } else {
-            phase::SET_UP
-        },
+    match (tick.lines.clock, tick.lines.data) {
+        (false, true) => Err(Verdict::OutOfTurn),
+        (true, _) if tick.offset <= limits::CLOCK_UP_TO => Ok(Next::Go(Phase::SetUp)),
+        (true, _) => Err(Verdict::LateClock),
+        (false, false) => Ok(Next::Stay),
     }
 }
 
 // E: "Any tick other than (0,0): 37."
-pub fn end(pulled: u32) -> u32
-    ensures { Among leading_both result × (result ≡ stay → pulled ≡ 0) }
+pub fn end(tick: Tick) -> Result<Next, Verdict>
+    ensures leads { LeadsBoth tick result }
+    ensures at_rest { OnOk result ((tick.lines.clock ≡ false) × (tick.lines.«data» ≡ false)) }
 {
-    match pulled {
-        lines::NEITHER => phase::STAY,
-        _ => numbers::MOVED_AFTER_THE_END,
+    match (tick.lines.clock, tick.lines.data) {
+        (false, false) => Ok(Next::Stay),
+        (_, _) => Err(Verdict::MovedAfterTheEnd),
     }
 }

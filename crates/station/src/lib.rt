@@ -1,19 +1,19 @@
 // The station's entries for programs in C and Rust. Each hands the lent memory on and the answer back, and does nothing else.
 #![tactic(auto)]
 
-ghost use Rattle.std.specs.Prelude.{◌≡◌};
-ghost use Rattle.answer.specs.Names.{word_of, Spells};
+ghost use Rattle.std.specs.Prelude.{◌<◌, length, ◌≡◌};
+ghost use Rattle.answer.specs.Names.{word_of, name_room};
 ghost use Rattle.command.specs.{Classes.class_of, Classes.class_number, Words.class_word};
 ghost use Rattle.transfer.specs.Limits.{command_limits, standard_limits};
 ghost use Rattle.judge.specs.Judged as Judged;
 ghost use Rattle.judge.specs.Promise.{JudgePromise};
 ghost use Rattle.writer.specs.{Card.standard_card, Promise.WritePromise};
 ghost use Rattle.writer.specs.Written as Written;
-ghost use Rattle.station.specs.Border.{answer_of, name_of};
+ghost use Rattle.station.specs.Border.{answer_of, Spells};
 
 use answer::Answer;
 
-// An answer as it crosses the border: four numbers of 32 bits, in this order.
+// An answer as it crosses the border: four numbers of 32 bits, in this order, as `struct station_answer` of include/station.h has them.
 #[repr(C)]
 #[derive(Clone, Copy)]
 pub struct StationAnswer {
@@ -24,14 +24,16 @@ pub struct StationAnswer {
 }
 
 // The same four numbers.
-fn cross(answer: Answer) -> StationAnswer
-    ensures { answer_of result ≡ answer }
-{
-    StationAnswer {
-        number: answer.number as u32,
-        tick: answer.tick,
-        step: answer.step,
-        count: answer.count,
+impl From<Answer> for StationAnswer {
+    ghost from_gives = { λ answer crossing. answer_of crossing ≡ answer };
+
+    fn from(answer: Answer) -> StationAnswer {
+        StationAnswer {
+            number: u32::from(answer.number),
+            tick: answer.tick,
+            step: answer.step,
+            count: answer.count,
+        }
     }
 }
 
@@ -41,7 +43,7 @@ pub extern "C" fn station_judge(file: &[u8], bytes: &mut [u8], ledger: &mut [u32
     ensures { JudgePromise standard_limits file.now bytes.old ledger.old
         (Judged.leaves (answer_of result) bytes.new ledger.new) }
 {
-    cross(judge::judge(file, bytes, ledger))
+    judge::judge(file, bytes, ledger).into()
 }
 
 // Judges one command transfer. What `judge_command` promises, of the answer that crosses.
@@ -54,7 +56,7 @@ pub extern "C" fn station_judge_command(
     ensures { JudgePromise command_limits file.now bytes.old ledger.old
         (Judged.leaves (answer_of result) bytes.new ledger.new) }
 {
-    cross(judge::judge_command(file, bytes, ledger))
+    judge::judge_command(file, bytes, ledger).into()
 }
 
 // Writes the sample recording of the bytes. What `write` promises, of the answer that crosses.
@@ -63,24 +65,35 @@ pub extern "C" fn station_write(bytes: &[u8], destination: &mut [u8]) -> Station
     ensures { WritePromise standard_limits standard_card bytes.now destination.old
         (Written.leaves (answer_of result) destination.new) }
 {
-    cross(writer::write(bytes, destination))
+    Answer::from(writer::write(bytes, destination)).into()
 }
 
-// A number's word as it crosses: its characters and then zeros, one at least.
+// A word as it crosses: its characters and then zeros, one at least. `struct station_word` of include/station.h has it so.
 #[repr(C)]
 #[derive(Clone, Copy)]
 pub struct StationWord {
     pub text: [u8; 32],
 }
 
+fn word_crossing(word: &str) -> StationWord
+    requires { length word.now < name_room }
+    ensures { Spells word.now result }
+{
+    let bytes = word.as_bytes();
+    let mut text = [0; 32];
+    // No `copy_from_slice`: the library calls nothing, as include/station.h says, and C's memcpy would copy a slice.
+    for (place, character) in text.iter_mut().enumerate() {
+        *character = bytes.get(place).copied().unwrap_or(0);
+    }
+    StationWord { text }
+}
+
 // The word that the programs print for this number.
 #[unsafe(no_mangle)]
 pub extern "C" fn station_name(number: u32) -> StationWord
-    ensures { Spells (word_of number) (name_of (word_of number) result) }
+    ensures { Spells (word_of number) result }
 {
-    let name = answer::name_of(number);
-    let text = name.characters;
-    StationWord { text }
+    word_crossing(answer::name_of(number))
 }
 
 // The number of a command byte's class.
@@ -94,9 +107,7 @@ pub extern "C" fn station_command_class(byte: u8) -> u32
 // The word that the programs print for a command byte's class.
 #[unsafe(no_mangle)]
 pub extern "C" fn station_command_name(byte: u8) -> StationWord
-    ensures { Spells (class_word (class_of byte)) (name_of (class_word (class_of byte)) result) }
+    ensures { Spells (class_word (class_of byte)) result }
 {
-    let name = command::class_of(byte).word();
-    let text = name.characters;
-    StationWord { text }
+    word_crossing(command::class_of(byte).word())
 }

@@ -10,11 +10,11 @@ pub struct Lines {
     pub data: bool,
 }
 
-impl Lines {
-    // Bit 0 is ATN, bit 1 CLK, bit 2 DATA.
-    pub fn of_byte(byte: u8) -> Lines
-        ensures { result ≡ lines_of byte }
-    {
+// Bit 0 is ATN, bit 1 CLK, bit 2 DATA.
+impl From<u8> for Lines {
+    ghost from_gives = { λ byte lines. lines ≡ lines_of byte };
+
+    fn from(byte: u8) -> Lines {
         let atn = byte % 2 == 1;
         let clk = byte / 2 % 2 == 1;
         let data = byte / 4 % 2 == 1;

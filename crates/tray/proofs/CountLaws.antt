@@ -1,81 +1,54 @@
--- How the counts of a tray go on by one seat, for a loop over its places, and how large they get. Assumes nothing.
-use Rattle.std.specs.Prelude.{ℕ, zero, suc, ◌+◌, ◌^◌, ◌≤◌, ◌<◌, List, [], ◌∷◌, length, take, get_or, ◌≡◌}
-use mathlib.Core.Path.{refl, sym, ap, ◌∙◌}
-use native.Mathlib.{Numerals.add-one, Omega.arith}
-use lib.ListN.{length-take}
+-- What one seat more adds to the counts: each seat is counted once. Assumes nothing.
+use Rattle.std.specs.Prelude.{ℕ, ◌+◌, Bool, not, ◌||◌, List, [], ◌∷◌, length, ◌≡◌, count_by, if◌then◌else◌}
+use Rattle.std.proofs.lemmas.List.Sums.{sum_by-cons}
+use mathlib.Core.Path.{refl}
+use native.Mathlib.Omega.{arith}
 use Rattle.tray.specs.Types.{SeatState, Vacant, Unjudged, Passed, Failed, Seat, Counts}
-use Rattle.tray.specs.{Tray.vacant_seat, Counts.Few, Counts.none, Counts.with_state, Counts.with_seat, Counts.counts_of}
+use Rattle.tray.specs.{Seats.is_used, Seats.in_use, Sealing.has_passed}
+use Rattle.tray.specs.{Counts.is_in, Counts.counts_of, History.used_in, History.seats_in_use}
 
--- The counts of the first n places.
-abbrev pub counted : List Seat → ℕ → Counts
-counted tray n = counts_of (take n tray)
+abbrev pub one_if : Bool → ℕ
+one_if t = if t then 1 else 0
 
-pub counted_none : (tray : List Seat) → counted tray 0 ≡ none
-unfolding counts_of
-counted_none tray = refl
+count_more : (state : SeatState) (seat : Seat) (tray : List Seat)
+    → count_by (is_in state) (seat ∷ tray) ≡ one_if (is_in state seat) + count_by (is_in state) tray
+count_more state = sum_by-cons (λ (seat : Seat). one_if (is_in state seat))
 
--- Two seats count alike in either order.
-swapped : (c : Counts) (a b : SeatState) → with_state (with_state c a) b ≡ with_state (with_state c b) a
-swapped c Vacant Vacant = refl
-swapped c Vacant Unjudged = refl
-swapped c Vacant Passed = refl
-swapped c Vacant Failed = refl
-swapped c Unjudged Vacant = refl
-swapped c Unjudged Unjudged = refl
-swapped c Unjudged Passed = refl
-swapped c Unjudged Failed = refl
-swapped c Passed Vacant = refl
-swapped c Passed Unjudged = refl
-swapped c Passed Passed = refl
-swapped c Passed Failed = refl
-swapped c Failed Vacant = refl
-swapped c Failed Unjudged = refl
-swapped c Failed Passed = refl
-swapped c Failed Failed = refl
-
-one_more : (tray : List Seat) (n : ℕ) → n < length tray → counted tray (suc n) ≡ with_seat (counted tray n) (get_or tray n vacant_seat)
-unfolding counts_of
-one_more [] n h = absurd (omega arith)
-one_more (seat ∷ tray) zero h = refl
-one_more (seat ∷ tray) (suc n) h =
-    ap (λ (c : Counts). with_seat c seat) (one_more tray n (omega arith))
-    ∙ swapped (counted tray n) (get_or tray n vacant_seat).state seat.state
-
-pub counted_more : (tray : List Seat) (n : ℕ) → n < length tray
-    → counted tray (n + 1) ≡ with_seat (counted tray n) (get_or tray n vacant_seat)
-counted_more tray n h = ap (counted tray) (add-one n) ∙ one_more tray n h
-
--- One place more, for counts that are those of the places before it.
-pub counted_on : (tray : List Seat) (n : ℕ) → n < length tray → {before after : Counts}
-    → before ≡ counted tray n → after ≡ with_seat before (get_or tray n vacant_seat) → after ≡ counted tray (n + 1)
-counted_on tray n h e f =
-    f ∙ ap (λ (c : Counts). with_seat c (get_or tray n vacant_seat)) e ∙ sym (counted_more tray n h)
-
--- Each seat is counted once.
-abbrev pub total : Counts → ℕ
+abbrev total : Counts → ℕ
 total c = c.passed + c.failed + c.unjudged + c.vacant
 
-one_counted : (c : Counts) (state : SeatState) → total (with_state c state) ≡ suc (total c)
-one_counted c Vacant = omega arith
-one_counted c Unjudged = omega arith
-one_counted c Passed = omega arith
-one_counted c Failed = omega arith
+-- The counts of seats in use that have not passed.
+abbrev pub not_passed : Counts → ℕ
+not_passed c = c.failed + c.unjudged
+
+record Once (state : SeatState) : Type 0 where
+  used : used_in (counts_of (record { state = state } ∷ [])) ≡ one_if (is_used state)
+  lost : not_passed (counts_of (record { state = state } ∷ [])) ≡ one_if (not (not (is_used state) || has_passed state))
+  all : total (counts_of (record { state = state } ∷ [])) ≡ 1
+
+once : (state : SeatState) → Once state
+once Vacant = record { used = refl; lost = refl; all = refl }
+once Unjudged = record { used = refl; lost = refl; all = refl }
+once Passed = record { used = refl; lost = refl; all = refl }
+once Failed = record { used = refl; lost = refl; all = refl }
+
+pub used_more : (seat : Seat) (tray : List Seat) → seats_in_use (seat ∷ tray) ≡ one_if (in_use seat) + seats_in_use tray
+used_more seat tray =
+    omega (arith, once seat.state, count_more Passed seat tray, count_more Failed seat tray, count_more Unjudged seat tray)
+
+pub lost_more : (seat : Seat) (tray : List Seat)
+    → not_passed (counts_of (seat ∷ tray)) ≡ one_if (not (not (in_use seat) || has_passed seat.state)) + not_passed (counts_of tray)
+lost_more seat tray = omega (arith, once seat.state, count_more Failed seat tray, count_more Unjudged seat tray)
 
 pub all_counted : (tray : List Seat) → total (counts_of tray) ≡ length tray
-unfolding counts_of
 all_counted [] = refl
-all_counted (seat ∷ tray) = one_counted (counts_of tray) seat.state ∙ ap suc (all_counted tray)
-
--- No count is above this.
-pub record AtMost (n : ℕ) (c : Counts) : Type 0 where
-  pub passed : c.passed ≤ n
-  pub failed : c.failed ≤ n
-  pub unjudged : c.unjudged ≤ n
-  pub vacant : c.vacant ≤ n
-
-pub counted_at_most : (tray : List Seat) (n : ℕ) → AtMost n (counted tray n)
-counted_at_most tray n = omega (arith, all_counted (take n tray), length-take n tray)
-
--- Before the last place there is room for one more of each.
-pub counted_room : (tray : List Seat) (n : ℕ) → n < length tray → length tray < 2 ^ 64 → Few (counted tray n)
-counted_room tray n h few = omega (arith, counted_at_most tray n)
+all_counted (seat ∷ tray) =
+    omega (
+      arith,
+      all_counted tray,
+      once seat.state,
+      count_more Passed seat tray,
+      count_more Failed seat tray,
+      count_more Unjudged seat tray,
+      count_more Vacant seat tray,
+    )

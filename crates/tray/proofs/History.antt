@@ -1,75 +1,51 @@
 -- A tray that only its calls change: how many seats are in use, and what a sealed one has behind it. Assumes nothing.
 use Rattle.std.specs.Prelude.{ℕ, zero, suc, ◌+◌, ◌<◌, Bool, true, false, ◌&&◌, List, [], ◌∷◌, length, replicate, set, get_or, ◌≡◌, eqb}
-use Rattle.std.specs.Prelude.{if◌then◌else◌}
+use Rattle.std.specs.Prelude.{if◌then◌else◌, Ok}
 use mathlib.Core.Bool.{false≢true, and-false}
 use mathlib.Core.Path.{refl, sym, ap, ap₂, subst⁻¹, ◌∙◌}
 use native.Mathlib.Omega.{arith}
 use borrow.Author.Tests.{ne_eqb, eqb-true, eqb-false}
 use Rattle.answer.specs.{Numbers.refusal_number}
-use Rattle.tray.specs.Types.{SeatState, Vacant, Unjudged, Passed, Failed, Seat, Call, Load, Remove, Post, Changed, Counts}
-use Rattle.tray.specs.{Seats.is_used, Seats.in_use, Seats.posted, Seats.changed, Passing.passing, Counts.with_state, Counts.counts_of}
+use Rattle.tray.specs.Types.{Passed, Seat, Call, Load, Remove, Post}
+use Rattle.tray.specs.{Seats.is_used, Seats.in_use, Seats.posted, Passing.passing}
 use Rattle.tray.specs.Sealing.{has_passed}
-use Rattle.tray.specs.Tray.{seats, vacant_seat, seat_at, Called, leaves, outside, changed_at}
+use Rattle.tray.specs.Tray.{seats, vacant_seat, seat_at, Called}
 use Rattle.tray.specs.History.{Request, load, remove, post, seat_of, call_of, answered, tray_after, is_accepted, is_load, is_removal}
-use Rattle.tray.specs.History.{accepted, used_in, seats_in_use, last_accepted, LastPostPassed}
+use Rattle.tray.specs.History.{accepted, seats_in_use, last_accepted, LastPostPassed}
 use Rattle.tray.specs.Facts.{LoadsLaw, PassedLaw, SealedLaw}
-use Rattle.tray.proofs.ChangedLaws.{Change, loads, removes, posts, refuses, change}
-use Rattle.tray.proofs.CalledLaws.{is_inside, of_called, of_accepted, one_seat, refusals_change_nothing}
+use Rattle.tray.proofs.CountLaws.{one_if, used_more}
+use Rattle.tray.proofs.ChangedLaws.{Change, loads, removes, posts}
+use Rattle.tray.proofs.CalledLaws.{of_called, of_accepted, one_seat, refusals_change_nothing}
 use Rattle.tray.proofs.{PassingLaws.passing_law, SealingLaws.sealing_law}
 
-abbrev one_if : Bool → ℕ
-one_if t = if t then 1 else 0
-
 -- The seats in use of a tray in which one seat is put.
-used_with : (c : Counts) (state : SeatState) → used_in (with_state c state) ≡ used_in c + one_if (is_used state)
-used_with c Vacant = omega arith
-used_with c Unjudged = omega arith
-used_with c Passed = omega arith
-used_with c Failed = omega arith
-
 used_set : (tray : List Seat) (place : ℕ) (new : Seat) → place < length tray
     → seats_in_use (set tray place new) + one_if (in_use (seat_at tray place)) ≡ seats_in_use tray + one_if (in_use new)
-unfolding counts_of
 used_set [] place new h = absurd (omega arith)
-used_set (first ∷ tray) zero new h =
-    omega (arith, used_with (counts_of tray) new.state, used_with (counts_of tray) first.state)
+used_set (first ∷ tray) zero new h = omega (arith, used_more new tray, used_more first tray)
 used_set (first ∷ tray) (suc place) new h =
-    let rest = used_set tray place new (omega arith) in
-    omega (arith, used_with (counts_of (set tray place new)) first.state, used_with (counts_of tray) first.state)
+    omega (arith, used_set tray place new (omega arith), used_more first (set tray place new), used_more first tray)
 
 -- One seat more is in use for a load that is accepted, and one less for a removal: of a seat, and of a tray.
-seat_balance : (request : Request) {seat : Seat} {c : Changed} → Change seat (call_of request) c
-    → one_if (in_use c.seat) + one_if (is_removal request && eqb c.answer 0)
-    ≡ one_if (in_use seat) + one_if (is_load request && eqb c.answer 0)
+seat_balance : (request : Request) {seat new : Seat} → Change seat (call_of request) (Ok new)
+    → one_if (in_use new) + one_if (is_removal request && true) ≡ one_if (in_use seat) + one_if (is_load request && true)
 seat_balance (load n) (loads free) = rw free
-seat_balance (load n) (refuses refusal some) = rw (ne_eqb (refusal_number refusal) 0 some)
 seat_balance (remove n) (removes used) = rw used
-seat_balance (remove n) (refuses refusal some) = rw (ne_eqb (refusal_number refusal) 0 some)
 seat_balance (post n answer buffer expected) (posts used) = rw used (by_test (passing answer buffer expected))
   where
     by_test : (passes : Bool) → one_if (is_used (posted passes)) + 0 ≡ 1
     by_test true = refl
     by_test false = refl
-seat_balance (post n answer buffer expected) (refuses refusal some) = refl
 
-abbrev Balanced : Request → List Seat → Called → Type 0
-Balanced request tray c =
-    seats_in_use c.tray + one_if (is_removal request && eqb c.answer 0)
-    ≡ seats_in_use tray + one_if (is_load request && eqb c.answer 0)
-
-balance : (request : Request) (tray : List Seat) → Balanced request tray (answered tray request)
-balance request tray = of_called tray (seat_of request) (call_of request) (Balanced request tray) ins out
-  where
-    ins : outside (length tray) (seat_of request) ≡ 0
-        → Balanced request tray (changed_at tray (seat_of request) (changed (seat_at tray (seat_of request)) (call_of request)))
-    ins e =
-        let place = is_inside (length tray) (seat_of request) e in
-        let old = seat_at tray (seat_of request) in
-        let new = (changed old (call_of request)).seat in
-        omega (arith, used_set tray (seat_of request) new (omega arith), seat_balance request (change old (call_of request)))
-
-    out : (outside (length tray) (seat_of request) ≡ 0 → ⊥) → Balanced request tray (leaves (outside (length tray) (seat_of request)) tray)
-    out h = rw (ne_eqb (outside (length tray) (seat_of request)) 0 h, and-false (is_removal request), and-false (is_load request))
+balance : (request : Request) (tray : List Seat)
+    → seats_in_use (answered tray request).tray + one_if (is_removal request && eqb (answered tray request).answer 0)
+    ≡ seats_in_use tray + one_if (is_load request && eqb (answered tray request).answer 0)
+balance request tray =
+    of_called tray (seat_of request) (call_of request)
+    (λ (c : Called).
+    seats_in_use c.tray + one_if (is_removal request && eqb c.answer 0) ≡ seats_in_use tray + one_if (is_load request && eqb c.answer 0))
+    (λ new inside c. omega (arith, used_set tray (seat_of request) new inside, seat_balance request c))
+    (λ refusal some. rw (ne_eqb (refusal_number refusal) 0 some, and-false (is_removal request), and-false (is_load request)))
 
 accepted_more : (kind : Request → Bool) (request : Request) (earlier : List Request)
     → accepted kind (request ∷ earlier) ≡ accepted kind earlier + one_if (kind request && is_accepted request earlier)
@@ -81,7 +57,7 @@ accepted_more kind request earlier = by_test (kind request && is_accepted reques
     by_test false = omega arith
 
 pub loads_law : LoadsLaw
-unfolding accepted tray_after counts_of
+unfolding accepted tray_after
 loads_law [] = refl
 loads_law (request ∷ earlier) =
     let before = loads_law earlier in
@@ -93,13 +69,11 @@ passes_by Load = false
 passes_by Remove = false
 passes_by (Post passes) = passes
 
-only_posts_pass : (seat : Seat) (call : Call) (c : Changed) → Change seat call c → c.answer ≡ 0 → c.seat.state ≡ Passed
-    → passes_by call ≡ true
-only_posts_pass seat call c (loads free) a e = ap has_passed e
-only_posts_pass seat call c (removes used) a e = ap has_passed e
-only_posts_pass seat call c (posts {passes = true} used) a e = refl
-only_posts_pass seat call c (posts {passes = false} used) a e = ap has_passed e
-only_posts_pass seat call c (refuses refusal some) a e = absurd (some a)
+only_posts_pass : (seat : Seat) (call : Call) (new : Seat) → Change seat call (Ok new) → new.state ≡ Passed → passes_by call ≡ true
+only_posts_pass seat call new (loads free) e = ap has_passed e
+only_posts_pass seat call new (removes used) e = ap has_passed e
+only_posts_pass seat call new (posts {passes = true} used) e = refl
+only_posts_pass seat call new (posts {passes = false} used) e = ap has_passed e
 
 -- Where a request is the last accepted one for a seat, and where it is not.
 module _ (seat : ℕ) (request : Request) (earlier : List Request) where

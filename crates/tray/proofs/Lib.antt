@@ -1,7 +1,6 @@
 -- Why it holds. History, NeverPasses, SealingLaws, PassingLaws, CalledLaws and Joined have the theorems; the rest are the laws by which the
 -- functions go.
 pub mod Tests
-pub mod PassingTests
 pub mod PassingLaws
 pub mod ChangedLaws
 pub mod CalledLaws

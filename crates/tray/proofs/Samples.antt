@@ -1,7 +1,6 @@
 -- The samples hold: each is computed. Assumes nothing.
 use mathlib.Core.Path.{refl}
-use Rattle.tray.specs.{Seats.changed, Passing.begins_with, Passing.passing, Tray.outside, Tray.called}
-use Rattle.tray.specs.Sealing.{some_in_use, all_passed, sealing}
+use Rattle.tray.specs.{Seats.changed, Passing.passing, Tray.outside, Tray.called, Sealing.sealed}
 use Rattle.tray.specs.Samples.{CallSamples, PostSamples, SealSamples}
 
 pub calls_hold : CallSamples
@@ -29,7 +28,7 @@ calls_hold =
     }
 
 pub posts_hold : PostSamples
-unfolding passing begins_with
+unfolding passing
 posts_hold =
     record {
       as_expected = refl;
@@ -44,7 +43,7 @@ posts_hold =
     }
 
 pub seals_hold : SealSamples
-unfolding sealing some_in_use all_passed
+unfolding sealed
 seals_hold =
     record {
       vacant_tray = refl;

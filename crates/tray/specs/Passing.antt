@@ -1,12 +1,7 @@
 -- When a post passes.
-use Rattle.std.specs.Prelude.{ℕ, Bool, true, false, ◌&&◌, List, [], ◌∷◌, length, eqb, ◌≡◌}
+use Rattle.std.specs.Prelude.{ℕ, Bool, ◌&&◌, List, length, eqb, ◌≡◌}
+use Rattle.std.specs.List.{starts_with}
 use Rattle.answer.specs.{Types.Answer, Answers.first}
-
--- "The buffer begins with them": a buffer that is shorter does not.
-unfoldable pub begins_with : (buffer expected : List ℕ) → Bool
-begins_with buffer [] = true
-begins_with [] (byte ∷ expected) = false
-begins_with (place ∷ buffer) (byte ∷ expected) = eqb place byte && begins_with buffer expected
 
 -- "A post passes exactly if the number is 20, the count is that of the expected bytes and the buffer begins with them."
 pub record PassingPost (answer : Answer) (buffer expected : List ℕ) : Type 0 where
@@ -16,4 +11,4 @@ pub record PassingPost (answer : Answer) (buffer expected : List ℕ) : Type 0 w
 
 -- The same as a test.
 unfoldable pub passing : Answer → (buffer expected : List ℕ) → Bool
-passing answer buffer expected = eqb answer.number 20 && (eqb answer.count (length expected) && begins_with buffer expected)
+passing answer buffer expected = eqb answer.number 20 && (eqb answer.count (length expected) && starts_with eqb buffer expected)

@@ -1,7 +1,8 @@
 -- Sealing a tray.
-use Rattle.std.specs.Prelude.{ℕ, Bool, true, false, not, ◌&&◌, ◌||◌, List, [], ◌∷◌, length, eqb, if◌then◌else◌}
+use Rattle.std.specs.Prelude.{ℕ, Bool, true, false, not, ◌&&◌, ◌||◌, List, length, eqb, if◌then◌else◌, Result, Ok, Err}
+use Rattle.std.specs.List.{list_any, list_all}
 use Rattle.answer.specs.Basics.{differs}
-use Rattle.answer.specs.{Types.NotFortySeats, Numbers.refusal_number}
+use Rattle.answer.specs.{Types.Refusal, Types.NotFortySeats, Numbers.refusal_number}
 use Rattle.tray.specs.{Types.Seat, Types.Counts, Seats.in_use, Tray.seats}
 use Rattle.tray.specs.Types.{SeatState, Vacant, Unjudged, Passed, Failed}
 
@@ -12,26 +13,31 @@ has_passed Passed = true
 has_passed Failed = false
 
 -- "Some seat is in use."
-unfoldable pub some_in_use : List Seat → Bool
-some_in_use [] = false
-some_in_use (seat ∷ tray) = in_use seat || some_in_use tray
+abbrev pub some_in_use : List Seat → Bool
+some_in_use tray = list_any in_use tray
 
 -- "And all in use have passed."
-unfoldable pub all_passed : List Seat → Bool
-all_passed [] = true
-all_passed (seat ∷ tray) = (not (in_use seat) || has_passed seat.state) && all_passed tray
+abbrev pub all_passed : List Seat → Bool
+all_passed tray = list_all (λ seat. not (in_use seat) || has_passed seat.state) tray
 
--- "16 the list isn't forty long (sealing too)"; "sealing changes nothing and answers 1 exactly if some seat is in use and all in use have
--- passed, otherwise 0."
-unfoldable pub sealing : List Seat → ℕ
-sealing tray =
-    if differs (length tray) seats then refusal_number NotFortySeats else
-    if some_in_use tray && all_passed tray then 1 else 0
+-- "16 the list isn't forty long (sealing too)"; otherwise whether some seat is in use and all in use have passed.
+unfoldable pub sealed : List Seat → Result Bool Refusal
+sealed tray =
+    if differs (length tray) seats then Err NotFortySeats else
+    Ok (some_in_use tray && all_passed tray)
+
+-- "Sealing changes nothing and answers 1 exactly if some seat is in use and all in use have passed, otherwise 0."
+abbrev pub sealing_number : Result Bool Refusal → ℕ
+sealing_number (Ok true) = 1
+sealing_number (Ok false) = 0
+sealing_number (Err refusal) = refusal_number refusal
+
+abbrev pub sealing : List Seat → ℕ
+sealing tray = sealing_number (sealed tray)
 
 -- The same by the counts.
-unfoldable pub sealing_by : (length : ℕ) → Counts → ℕ
-sealing_by length c =
-    if differs length seats then refusal_number NotFortySeats else
-    if eqb c.passed 0 then 0 else
-    if differs c.failed 0 then 0 else
-    if differs c.unjudged 0 then 0 else 1
+abbrev pub only_passed : Counts → Bool
+only_passed c = not (eqb c.passed 0) && (eqb c.failed 0 && eqb c.unjudged 0)
+
+unfoldable pub sealing_by : (length : ℕ) → Counts → Result Bool Refusal
+sealing_by length c = if differs length seats then Err NotFortySeats else Ok (only_passed c)

@@ -1,7 +1,7 @@
 -- The rule of one seat.
-use Rattle.std.specs.Prelude.{Bool, true, false}
-use Rattle.answer.specs.{Types.Refusal, Types.VacantSeat, Types.SeatInUse, Numbers.refusal_number}
-use Rattle.tray.specs.Types.{SeatState, Vacant, Unjudged, Passed, Failed, Seat, Call, Load, Remove, Post, Changed}
+use Rattle.std.specs.Prelude.{Bool, true, false, Result, Ok, Err}
+use Rattle.answer.specs.Types.{Refusal, VacantSeat, SeatInUse}
+use Rattle.tray.specs.Types.{SeatState, Vacant, Unjudged, Passed, Failed, Seat, Call, Load, Remove, Post}
 
 -- "A seat is vacant, unjudged, passed or failed": in use where it is not vacant.
 abbrev pub is_used : SeatState → Bool
@@ -14,12 +14,8 @@ abbrev pub in_use : Seat → Bool
 in_use seat = is_used seat.state
 
 -- "Load, post and remove answer 0 where accepted."
-abbrev pub becomes : SeatState → Changed
-becomes state = record { seat = record { state = state }; answer = 0 }
-
--- "A refusal changes nothing."
-abbrev pub stays : Seat → Refusal → Changed
-stays seat refusal = record { seat = seat; answer = refusal_number refusal }
+abbrev pub becomes : SeatState → Result Seat Refusal
+becomes state = Ok (record { state = state })
 
 -- A post that passes, and one that does not. "A later post replaces the earlier."
 abbrev pub posted : (passes : Bool) → SeatState
@@ -27,15 +23,15 @@ posted true = Passed
 posted false = Failed
 
 -- What a call makes of a seat, by whether it is in use.
-abbrev pub changed_in : (used : Bool) → Seat → Call → Changed
+abbrev pub changed_in : (used : Bool) → Call → Result Seat Refusal
 -- "Load makes a vacant seat unjudged"; "15 loading a seat in use".
-changed_in false seat Load = becomes Unjudged
-changed_in true seat Load = stays seat SeatInUse
+changed_in false Load = becomes Unjudged
+changed_in true Load = Err SeatInUse
 -- "Remove makes a seat vacant, and post .. makes it passed or failed"; "14 posting to or removing from a vacant seat".
-changed_in true seat Remove = becomes Vacant
-changed_in true seat (Post passes) = becomes (posted passes)
-changed_in false seat Remove = stays seat VacantSeat
-changed_in false seat (Post passes) = stays seat VacantSeat
+changed_in true Remove = becomes Vacant
+changed_in true (Post passes) = becomes (posted passes)
+changed_in false Remove = Err VacantSeat
+changed_in false (Post passes) = Err VacantSeat
 
-unfoldable pub changed : Seat → Call → Changed
-changed seat call = changed_in (in_use seat) seat call
+unfoldable pub changed : Seat → Call → Result Seat Refusal
+changed seat call = changed_in (in_use seat) call

@@ -1,6 +1,6 @@
 // How many seats of a tray are in each state.
-ghost use Rattle.std.specs.Prelude.{◌≡◌};
-ghost use Rattle.tray.specs.Counts.{with_seat, counts_of, Few};
+ghost use Rattle.std.specs.Prelude.{◌≡◌, count_by};
+ghost use Rattle.tray.specs.Counts.{is_in, counts_of};
 
 use crate::seat::{Seat, SeatState};
 
@@ -12,48 +12,21 @@ pub struct Counts {
     pub vacant: usize,
 }
 
-impl Counts {
-    // One seat more.
-    fn with_seat(self, seat: Seat) -> Counts
-        requires { Few self }
-        ensures { result ≡ with_seat self seat }
-    {
-        let state = seat.state;
-        match state {
-            SeatState::Vacant => Counts {
-                vacant: self.vacant + 1,
-                ..self
-            },
-            SeatState::Unjudged => Counts {
-                unjudged: self.unjudged + 1,
-                ..self
-            },
-            SeatState::Passed => Counts {
-                passed: self.passed + 1,
-                ..self
-            },
-            SeatState::Failed => Counts {
-                failed: self.failed + 1,
-                ..self
-            },
-        }
-    }
-}
-
 // Of all seats, however many there are.
 pub fn count(tray: &[Seat]) -> Counts
     ensures { result ≡ counts_of tray.now }
 {
-    let mut counts = Counts {
-        passed: 0,
-        failed: 0,
-        unjudged: 0,
-        vacant: 0,
-    };
-    let mut place: usize = 0;
-    while place < tray.len() {
-        counts = counts.with_seat(tray[place]);
-        place += 1;
+    Counts {
+        passed: count_in(tray, SeatState::Passed),
+        failed: count_in(tray, SeatState::Failed),
+        unjudged: count_in(tray, SeatState::Unjudged),
+        vacant: count_in(tray, SeatState::Vacant),
     }
-    counts
+}
+
+// How many are in this state.
+fn count_in(tray: &[Seat], state: SeatState) -> usize
+    ensures { result ≡ count_by (is_in state) tray.now }
+{
+    tray.iter().filter(|seat| seat.state == state).count()
 }

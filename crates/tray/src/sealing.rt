@@ -1,33 +1,28 @@
 // Sealing a tray: it only looks.
 ghost use Rattle.std.specs.Prelude.{◌≡◌};
-ghost use Rattle.tray.specs.Sealing.{sealing, sealing_by};
+ghost use Rattle.tray.specs.Sealing.{only_passed, sealed};
 
 use crate::counts::{Counts, count};
 use crate::seat::Seat;
 use crate::tray::SEATS;
 use answer::Refusal;
 
-// 1 where the tray is sealed: some seat is in use, and all in use have passed; otherwise 0, or the refusal of what isn't forty long.
-pub fn seal(tray: &[Seat]) -> u8
-    ensures { result ≡ sealing tray.now }
+// Whether the tray is sealed: some seat is in use, and all in use have passed. What isn't forty long is refused.
+#[tactic(auto, using(crate::proofs::SealingLaws::sealing_by_counts), unfolding(crate::specs::Sealing::sealing_by))]
+pub fn seal(tray: &[Seat]) -> Result<bool, Refusal>
+    ensures { result ≡ sealed tray.now }
 {
-    seal_by(tray.len(), count(tray))
+    if tray.len() != SEATS {
+        return Err(Refusal::NotFortySeats);
+    }
+    Ok(count(tray).only_passed())
 }
 
-fn seal_by(seats: usize, counts: Counts) -> u8
-    ensures { result ≡ sealing_by seats counts }
-{
-    if seats != SEATS {
-        return Refusal::NotFortySeats.number();
+impl Counts {
+    // Some seat is in use, and all that are have passed.
+    fn only_passed(self) -> bool
+        ensures { result ≡ only_passed self }
+    {
+        self.passed != 0 && self.failed == 0 && self.unjudged == 0
     }
-    if counts.passed == 0 {
-        return 0;
-    }
-    if counts.failed != 0 {
-        return 0;
-    }
-    if counts.unjudged != 0 {
-        return 0;
-    }
-    1
 }

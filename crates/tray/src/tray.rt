@@ -1,6 +1,7 @@
-// The calls that change a lent tray in place. Each answers 0 where it is accepted; otherwise a refusal, and then nothing has changed.
-ghost use Rattle.std.specs.Prelude.{◌≡◌};
-ghost use Rattle.tray.specs.{Types.Load, Types.Remove, Types.Post, Passing.passing, Tray.leaves, Tray.called, Tray.outside};
+// The calls that change a lent tray in place. Where one is refused, nothing has changed.
+// A tray is lent as a slice, and not as an array of SEATS: a list of another length is answered, by refusal 16.
+ghost use Rattle.std.specs.Prelude.{◌≡◌, OnErr};
+ghost use Rattle.tray.specs.{Types.Load, Types.Remove, Types.Post, Passing.passing, Tray.answer_of, Tray.leaves, Tray.called};
 
 use crate::passing::passes;
 use crate::seat::{Call, Seat};
@@ -10,51 +11,49 @@ use answer::{Answer, Refusal};
 pub const SEATS: usize = 40;
 
 // Makes a vacant seat unjudged.
-pub fn load(tray: &mut [Seat], seat: usize) -> u8
-    ensures { leaves result tray.new ≡ called tray.old seat Load }
+pub fn load(tray: &mut [Seat], seat: usize) -> Result<(), Refusal>
+    ensures left { leaves (answer_of result) tray.new ≡ called tray.old seat Load }
+    ensures refused { OnErr result (tray.new ≡ tray.old) }
 {
     change(tray, seat, Call::Load)
 }
 
 // Makes a seat vacant.
-pub fn remove(tray: &mut [Seat], seat: usize) -> u8
-    ensures { leaves result tray.new ≡ called tray.old seat Remove }
+pub fn remove(tray: &mut [Seat], seat: usize) -> Result<(), Refusal>
+    ensures left { leaves (answer_of result) tray.new ≡ called tray.old seat Remove }
+    ensures refused { OnErr result (tray.new ≡ tray.old) }
 {
     change(tray, seat, Call::Remove)
 }
 
 // Makes a seat passed or failed: by the judge's answer, its byte buffer and the bytes that were expected.
-pub fn post(tray: &mut [Seat], seat: usize, answer: Answer, buffer: &[u8], expected: &[u8]) -> u8
-    ensures { leaves result tray.new
+pub fn post(
+    tray: &mut [Seat],
+    seat: usize,
+    answer: Answer,
+    buffer: &[u8],
+    expected: &[u8],
+) -> Result<(), Refusal>
+    ensures left { leaves (answer_of result) tray.new
         ≡ called tray.old seat (Post (passing answer buffer.now expected.now)) }
+    ensures refused { OnErr result (tray.new ≡ tray.old) }
 {
     let passes = passes(answer, buffer, expected);
     change(tray, seat, Call::Post(passes))
 }
 
 // Not for callers outside the crate: it takes their word for it that a post passes.
-pub fn change(tray: &mut [Seat], seat: usize, call: Call) -> u8
-    ensures { leaves result tray.new ≡ called tray.old seat call }
+#[tactic(auto, unfolding(crate::specs::Tray::outside, crate::specs::Tray::called))]
+pub fn change(tray: &mut [Seat], seat: usize, call: Call) -> Result<(), Refusal>
+    ensures left { leaves (answer_of result) tray.new ≡ called tray.old seat call }
+    ensures refused { OnErr result (tray.new ≡ tray.old) }
 {
-    let refused = outside(tray.len(), seat);
-    if refused == 0 {
-        let changed = tray[seat].called(call);
-        tray[seat] = changed.seat;
-        return changed.answer;
-    } else {
-        return refused;
-    }
-}
-
-// Why a call is refused whatever the seat holds; 0 where it is not.
-fn outside(seats: usize, seat: usize) -> u8
-    ensures { result ≡ outside seats seat }
-{
-    if seats != SEATS {
-        return Refusal::NotFortySeats.number();
+    if tray.len() != SEATS {
+        return Err(Refusal::NotFortySeats);
     }
     if SEATS <= seat {
-        return Refusal::NoSuchSeat.number();
+        return Err(Refusal::NoSuchSeat);
     }
-    0
+    tray[seat] = tray[seat].called(call)?;
+    Ok(())
 }

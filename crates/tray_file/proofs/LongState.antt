@@ -29,13 +29,17 @@ module _ (file : List ℕ) (room : ℕ) (more : 493 < room) (fits : room ≤ len
 pub long_state : LongStateLaw
 long_state file room read more fits part =
     let known = long file room more fits in
-    let forty = part.of_forty in
     record {
-      of_forty = forty;
-      right = λ z. let e = ap length (part.right z) ∙ text_length_lem read.seats forty in absurd (omega arith);
+      right = λ seats z.
+          let right = part.right seats z in
+          let e = ap length right.1 ∙ text_length_lem seats right.0 in
+          absurd (omega arith);
       all_right = λ seats h e. let l = ap length e ∙ text_length_lem seats h in absurd (omega arith);
+      some_line = part.some_line;
       before = λ line z.
-          whole_begins file room more fits (bytes_in line) (state_text read.seats) (text_length_lem read.seats forty) (part.before line z);
+          let told = part.before line z in
+          let short = text_length_lem told.0 told.1 in
+          (told.0, told.1, whole_begins file room more fits (bytes_in line) (state_text told.0) short told.2);
       wrong = λ line z seats h e.
           part.wrong line z seats h
           (beginning_begins file room more fits (bytes_in (suc line)) (state_text seats) (text_length_lem seats h) e);

@@ -1,9 +1,11 @@
 -- Numbers from digits. Assumes nothing.
 use Prim.Native.Char.{code}
-use Rattle.std.specs.Prelude.{ℕ, ◌+◌, ◌-◌, ◌*◌, ◌≤◌, ◌<◌, true, false, List, [], ◌∷◌, length, drop, get_or, ◌≡◌}
+use Rattle.std.specs.Prelude.{ℕ, ◌+◌, ◌-◌, ◌*◌, ◌≤◌, ◌<◌, ◌≡◌, min, Bool, true, false, ◌&&◌, if◌then◌else◌}
+use Rattle.std.specs.Prelude.{List, [], ◌∷◌, length, drop, get_or}
 use native.Mathlib.{Omega.arith, Numerals.add-one}
 use mathlib.Core.Path.{refl, ap, sym, ◌∙◌}
-use borrow.Author.Tests.{lt-ltb, le-ltb}
+use borrow.Author.Tests.{lt-ltb, le-ltb, lt-leb, le-leb}
+use Rattle.std.specs.{Char.is_ascii_digit, List.list_all}
 use lib.{ListN.drop_of_length-le, Seq.drop-cons}
 use Rattle.tray_file.proofs.LineLaws.{either_below}
 use Rattle.tray_file.specs.SeatNumber.{is_digit, all_digits, is_number, number_after, number_of, or_forty}
@@ -37,11 +39,8 @@ kept_after (d ∷ digits) n =
     ∙ ap (λ (m : ℕ). or_forty (number_after m digits)) (digit_after n x)
     ∙ kept_after digits (n * 10 + x)
 
-pub with_digit_below : (n x value : ℕ) → value ≡ x → n * 10 + value < 40 → n * 10 + value ≡ or_forty (n * 10 + x)
-with_digit_below n x value e low = rw (← e) (sym (below_forty (n * 10 + value) low))
-
-pub with_digit_from : (n x value : ℕ) → value ≡ x → 40 ≤ n * 10 + value → 40 ≡ or_forty (n * 10 + x)
-with_digit_from n x value e high = rw (← e) (sym (from_forty (n * 10 + value) high))
+pub min_forty : (n : ℕ) → min 40 n ≡ or_forty n
+min_forty n = either_below n 40 (λ low. omega (arith, below_forty n low)) (λ high. omega (arith, from_forty n high))
 
 -- At a place of the digits: what is kept of the number so far, with the digits that are left after it, is what is kept of all.
 pub record Kept (digits : List ℕ) (number place : ℕ) : Type 0 where
@@ -74,33 +73,30 @@ kept_all digits number place kept end =
     (λ low. sym (below_forty number low) ∙ ap or_forty (sym rest) ∙ kept.all)
     (λ high. let full : number ≡ 40 = omega (arith, kept.small) in full ∙ sym (from_forty number high) ∙ ap or_forty (sym rest) ∙ kept.all)
 
--- At a place of a text, of which no byte before it is another than a digit.
-pub record DigitsTo (text : List ℕ) (place : ℕ) : Type 0 where
-  pub within : place ≤ length text
-  pub rest : is_number text ≡ all_digits (drop place text)
+same_digit : (byte : ℕ) → is_ascii_digit byte ≡ is_digit byte
+same_digit byte =
+    either_below byte 48 (λ low. rw (lt-ltb byte 48 low, lt-leb 48 byte low))
+    (λ high.
+    either_below 57 byte
+    (λ above. rw (le-ltb byte 48 high, lt-ltb 57 byte above, le-leb 48 byte high, lt-leb byte 57 above))
+    (λ within. rw (le-ltb byte 48 high, le-ltb 57 byte within, le-leb 48 byte high, le-leb byte 57 within)))
 
-pub digits_none : (text : List ℕ) → (length text ≡ 0 → ⊥) → DigitsTo text 0
+and_if : (a b : Bool) → (a && b) ≡ (if a then b else false)
+and_if true b = refl
+and_if false b = refl
+
+all_same : (text : List ℕ) → list_all is_ascii_digit text ≡ all_digits text
+unfolding all_digits
+all_same [] = refl
+all_same (byte ∷ text) = rw (same_digit byte, all_same text) (and_if (is_digit byte) (all_digits text))
+
+-- Digits, and not none.
+pub numbered : (text : List ℕ) → (length text ≡ 0 → ⊥) → list_all is_ascii_digit text ≡ is_number text
 unfolding is_number
-digits_none [] h = absurd (h refl)
-digits_none (b ∷ text) h = record { within = omega arith; rest = refl }
+numbered [] some = absurd (some refl)
+numbered (byte ∷ text) some = all_same (byte ∷ text)
 
-pub digits_next : (text : List ℕ) (place : ℕ) → DigitsTo text place → place < length text → is_digit (get_or text place 0) ≡ true
-    → DigitsTo text (place + 1)
-unfolding all_digits
-digits_next text place to more e =
-    let here : all_digits (drop place text) ≡ all_digits (drop (place + 1) text) = rw (add-one place, drop-cons text place 0 more, e) in
-    record { within = omega arith; rest = to.rest ∙ here }
-
-pub digits_other : (text : List ℕ) (place : ℕ) → DigitsTo text place → place < length text → is_digit (get_or text place 0) ≡ false
-    → is_number text ≡ false
-unfolding all_digits
-digits_other text place to more e = to.rest ∙ rw (drop-cons text place 0 more, e)
-
-pub digits_all : (text : List ℕ) (place : ℕ) → DigitsTo text place → length text ≤ place → is_number text ≡ true
-unfolding all_digits
-digits_all text place to end = to.rest ∙ rw (drop_of_length-le text end)
-
-pub no_text : (text : List ℕ) → length text ≡ 0 → is_number text ≡ false
+pub no_text : (text : List ℕ) → length text ≡ 0 → false ≡ is_number text
 unfolding is_number
 no_text [] h = refl
 no_text (b ∷ text) h = absurd (omega arith)

@@ -1,7 +1,7 @@
 -- How long the lines of a state file are, and the byte at each of its places. Assumes nothing.
 use Rattle.std.specs.Prelude.{ℕ, zero, suc, ◌+◌, ◌-◌, ◌*◌, ◌/◌, ◌%◌, ◌≤◌, ◌<◌, List, [], ◌∷◌, ◌++◌, length, get_or, ◌≡◌}
 use native.Mathlib.Omega.{arith}
-use mathlib.Core.Path.{refl, ap, ◌∙◌}
+use mathlib.Core.Path.{refl, ap, ap₂, ◌∙◌}
 use lib.{ListN.length-append, ListN.get_or-append, Seq.get_or-append-add}
 use Rattle.tray.specs.Types.{SeatState, Vacant, Unjudged, Passed, Failed, Seat}
 use Rattle.tray.specs.Tray.{seat_at}
@@ -30,28 +30,14 @@ pub text_length_lem : (seats : List Seat) → length seats ≡ 40 → length (st
 unfolding state_text
 text_length_lem seats forty = omega (arith, lines_length 0 seats)
 
--- A line as the code puts it together, character by character.
-abbrev spelt : (tens ones : ℕ) (word : List ℕ) → List ℕ
-spelt tens ones word =
-    tens ∷ ones ∷ space
-    ∷ get_or word 0 0 ∷ get_or word 1 0 ∷ get_or word 2 0 ∷ get_or word 3 0 ∷ get_or word 4 0 ∷ get_or word 5 0 ∷ get_or word 6 0
-    ∷ get_or word 7 0
-    ∷ newline ∷ []
-
-spelt_out : (tens ones : ℕ) (state : SeatState) → spelt tens ones (ascii (state_word state))
-    ≡ tens ∷ ones ∷ space ∷ (ascii (state_word state) ++ (newline ∷ []))
-spelt_out tens ones Vacant = refl
-spelt_out tens ones Unjudged = refl
-spelt_out tens ones Passed = refl
-spelt_out tens ones Failed = refl
-
+-- A line as the code puts it together.
 pub line_spelt : (word : List ℕ) (tens ones number : ℕ) (seat : Seat) → word ≡ ascii (state_word seat.state)
-    → tens ≡ digit (number / 10) → ones ≡ digit (number % 10) → spelt tens ones word ≡ seat_line number seat
+    → tens ≡ digit (number / 10) → ones ≡ digit (number % 10)
+    → tens ∷ ones ∷ space ∷ (word ++ (newline ∷ [])) ≡ seat_line number seat
 unfolding seat_line
 line_spelt word tens ones number seat w t o =
-    ap (λ (l : List ℕ). spelt tens ones l) w ∙ ap (λ (n : ℕ). spelt n ones (ascii (state_word seat.state))) t
-    ∙ ap (λ (n : ℕ). spelt (digit (number / 10)) n (ascii (state_word seat.state))) o
-    ∙ spelt_out (digit (number / 10)) (digit (number % 10)) seat.state
+    ap (λ (l : List ℕ). tens ∷ ones ∷ space ∷ (l ++ (newline ∷ []))) w
+    ∙ ap₂ (λ (a b : ℕ). a ∷ b ∷ space ∷ (ascii (state_word seat.state) ++ (newline ∷ []))) t o
 
 -- The byte in a column of a seat's line.
 lines_at : (number : ℕ) (seats : List Seat) (seat column : ℕ) → seat < length seats → column < 12

@@ -34,7 +34,3 @@ pub record SameUntil (file text : List ℕ) (place : ℕ) : Type 0 where
 -- The line that a place is in, counted from 1.
 unfoldable pub line_of : (place : ℕ) → ℕ
 line_of place = if ltb place heading_length then 1 else (place - heading_length) / line_length + 2
-
--- The line in which a file of this length is wrong that is right up to this place.
-unfoldable pub wrong_line : (place length : ℕ) → ℕ
-wrong_line place length = if eqb place text_length then if eqb length text_length then 0 else line_of place else line_of place

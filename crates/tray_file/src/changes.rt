@@ -1,112 +1,142 @@
 // The calls that change a tray, each answered by a line and, where it is accepted, the new state at its place.
-use crate::arguments::{PLACE, STATE};
-use crate::lending::{Kept, loaded, removed};
-use crate::lines::{print, print_done, print_failure, print_refusal};
+use crate::arguments::{EXPECTED, RECORDING};
+use crate::console::Console;
+use crate::lines::{print_done, print_failure, print_refusal};
 use crate::numbers::seat_number;
-use crate::state::state_text;
-use files::{argument, fail, hide_controls};
+use answer::{Answer, Refusal, Verdict};
+use files::{print_answer, print_file, read_source};
 use std::io;
-use std::io::Print;
+use std::io::{ErrorKind, Input, Print};
 use std::rt::{Env, Files};
 use tray::{SEATS, Seat, SeatState};
 
-// A tray of vacant seats. The state's name is only printed: whether such a file is there already is for the caller to see.
-pub fn new_tray<R: Env + Files + Print, E: Print>(rt: &R, errors: &E) -> bool {
-    let mut name = [0u8; 4096];
-    match argument(rt, STATE, &mut name) {
-        Ok(length) => write_vacant_tray(rt, errors, &mut name[..length]),
-        Err(error) => {
-            fail(errors, b"the state's name", error);
-            false
+#[derive(Clone, Copy)]
+pub enum Change {
+    Load,
+    Remove,
+    Post,
+}
+
+// What such a call is about: the seat, by the digits that were given, and the state, by its file's name.
+#[derive(Drop)]
+pub struct Asked<'a, R, E> {
+    pub console: &'a Console<'a, R, E>,
+    pub seat: &'a [u8],
+    pub state: &'a [u8],
+}
+
+impl<R: Env + Files + Input + Print, E: Print> Asked<'_, R, E> {
+    pub fn change(&self, change: Change, seats: [Seat; SEATS]) -> io::Result<()> {
+        match change {
+            Change::Load => self.load(seats),
+            Change::Remove => self.remove(seats),
+            Change::Post => self.post(seats),
         }
     }
-}
 
-fn write_vacant_tray<R: Env + Files + Print, E: Print>(
-    rt: &R,
-    errors: &E,
-    state: &mut [u8],
-) -> bool {
-    hide_controls(state);
-    let seats = [Seat {
-        state: SeatState::Vacant,
-    }; SEATS];
-    if !keep(rt, errors, seats, state) {
-        return print_failure(rt, b"unwritable", state);
+    fn load(&self, mut seats: [Seat; SEATS]) -> io::Result<()> {
+        let loaded = tray::load(&mut seats, seat_number(self.seat));
+        self.keep_accepted(loaded, &seats, || self.print_done("loaded"))
     }
-    print(rt, b"0 vacant ") && print(rt, state) && print(rt, b"\n")
-}
 
-pub fn load<R: Env + Files + Print, E: Print>(
-    rt: &R,
-    errors: &E,
-    seats: [Seat; SEATS],
-    seat: &[u8],
-    state: &[u8],
-) -> bool {
-    keep_accepted(
-        rt,
-        errors,
-        loaded(seats, seat_number(seat)),
-        b"loaded",
-        seat,
-        state,
-    )
-}
-
-pub fn remove<R: Env + Files + Print, E: Print>(
-    rt: &R,
-    errors: &E,
-    seats: [Seat; SEATS],
-    seat: &[u8],
-    state: &[u8],
-) -> bool {
-    keep_accepted(
-        rt,
-        errors,
-        removed(seats, seat_number(seat)),
-        b"removed",
-        seat,
-        state,
-    )
-}
-
-fn keep_accepted<R: Env + Files + Print, E: Print>(
-    rt: &R,
-    errors: &E,
-    kept: Kept,
-    done: &[u8],
-    seat: &[u8],
-    state: &[u8],
-) -> bool {
-    if kept.answer != 0 {
-        return print_refusal(rt, kept.answer, seat, state);
+    fn remove(&self, mut seats: [Seat; SEATS]) -> io::Result<()> {
+        let removed = tray::remove(&mut seats, seat_number(self.seat));
+        self.keep_accepted(removed, &seats, || self.print_done("removed"))
     }
-    let seats = kept.seats;
-    if !keep(rt, errors, seats, state) {
-        return print_failure(rt, b"unwritable", state);
-    }
-    print_done(rt, done, seat, state)
-}
 
-// Writes the state to its place, which is opened only here, and answers whether all of it was written; otherwise the reason was told.
-pub fn keep<R: Env + Files, E: Print>(
-    rt: &R,
-    errors: &E,
-    seats: [Seat; SEATS],
-    state: &[u8],
-) -> bool {
-    match write_state(rt, seats) {
-        Ok(()) => true,
-        Err(error) => {
-            fail(errors, state, error);
-            false
+    // As in judge_file, the room is longer than any recording, and a longer file is judged by its beginning as it is by the whole of it.
+    fn post(&self, seats: [Seat; SEATS]) -> io::Result<()> {
+        let mut name = [0u8; 4096];
+        let mut room = [0u8; 65536];
+        let Console { rt, errors } = *self.console;
+        let recording = read_source(rt, errors, RECORDING, &mut name, &mut room);
+        match recording.file {
+            Some(file) => self.post_recording(seats, file, recording.name),
+            None => print_failure(rt, "unreadable", recording.name),
         }
     }
-}
 
-fn write_state<R: Env + Files>(rt: &R, seats: [Seat; SEATS]) -> io::Result<()> {
-    let mut place = [0u8; 4096];
-    let length = argument(rt, PLACE, &mut place)?;
-    files::save(rt, PLACE, &place[..length], &state_text(seats))
+    // The room for the expected bytes is longer than the judge's buffer: a file that fills it passes neither whole nor cut
+    // (specs/LongFiles.antt).
+    fn post_recording(
+        &self,
+        seats: [Seat; SEATS],
+        file: &[u8],
+        recording: &[u8],
+    ) -> io::Result<()> {
+        let mut name = [0u8; 4096];
+        let mut room = [0u8; 4096];
+        let Console { rt, errors } = *self.console;
+        let expected = read_source(rt, errors, EXPECTED, &mut name, &mut room);
+        match expected.file {
+            Some(bytes) => self.post_judged(seats, file, recording, bytes),
+            None => print_failure(rt, "unreadable", expected.name),
+        }
+    }
+
+    fn post_judged(
+        &self,
+        mut seats: [Seat; SEATS],
+        file: &[u8],
+        recording: &[u8],
+        expected: &[u8],
+    ) -> io::Result<()> {
+        let mut bytes = [0u8; 1000];
+        let mut ledger = [0u32; 2000];
+        let judged = judge::judge(file, &mut bytes, &mut ledger);
+        let number = seat_number(self.seat);
+        let posted = tray::post(&mut seats, number, judged, &bytes, expected);
+        self.keep_accepted(posted, &seats, || {
+            self.print_posted(seats.get(number), judged, recording)
+        })
+    }
+
+    // By what the crate tray answers. A refusal is printed, and the state stays as it is.
+    fn keep_accepted<F: FnOnce() -> io::Result<()>>(
+        &self,
+        called: Result<(), Refusal>,
+        seats: &[Seat; SEATS],
+        print_done: F,
+    ) -> io::Result<()>
+        requires { F.IsAlwaysCallable print_done }
+    {
+        match called {
+            Ok(()) => self.console.keep(seats, self.state, print_done),
+            Err(refusal) => print_refusal(self.console.rt, refusal, self.seat, self.state),
+        }
+    }
+
+    fn print_done(&self, done: &str) -> io::Result<()> {
+        print_done(self.console.rt, done, self.seat, self.state)
+    }
+
+    // A post that is accepted is one to a seat of the tray, and leaves it passed or failed.
+    fn print_posted(
+        &self,
+        seat: Option<&Seat>,
+        judged: Answer,
+        recording: &[u8],
+    ) -> io::Result<()> {
+        match seat.map(|seat| seat.state) {
+            Some(SeatState::Passed) => {
+                self.print_done("passed")?;
+                print_answer(self.console.rt, judged, recording)
+            }
+            Some(SeatState::Failed) => {
+                self.print_done("failed")?;
+                self.print_why(judged, recording)
+            }
+            _ => Err(ErrorKind::InvalidData.into()),
+        }
+    }
+
+    // Why a seat failed. A complete transfer of other bytes is not called complete here: no line after `failed` reads as a pass.
+    fn print_why(&self, judged: Answer, recording: &[u8]) -> io::Result<()> {
+        let to = self.console.rt;
+        if judged.number == Verdict::Complete.number() {
+            to.print("other-bytes")?;
+            return print_file(to, recording);
+        }
+        print_answer(to, judged, recording)
+    }
 }

@@ -20,34 +20,37 @@
 #![tactic(auto)]
 
 mod arguments;
-mod calls;
 mod changes;
-mod lending;
+mod console;
 mod lines;
 mod numbers;
-mod posting;
 mod reading;
 mod show;
 mod state;
 
-use crate::calls::{Call, Change, answer_state};
-use crate::changes::new_tray;
-use crate::lines::print;
+use crate::changes::Change;
+use crate::console::{Call, Console};
 use files::argument;
 use std::env::FillError;
-use std::io::{Input, Print};
+use std::io;
+use std::io::{ErrorKind, Input, Print};
 use std::rt::{Env, Files};
 
 fn main(rt: HostRuntime) {
-    answer_arguments(&rt, &rt.stderr());
+    let console = Console {
+        rt: &rt,
+        errors: &rt.stderr(),
+    };
+    let _ = answer_arguments(&console);
 }
 
-fn answer_arguments<R: Env + Files + Input + Print, E: Print>(rt: &R, errors: &E) {
-    let mut word = [0u8; 4096];
-    let length = argument(rt, 1, &mut word).unwrap_or(0);
-    if answer_call(rt, errors, &word[..length], count_arguments(rt)) {
-        print(rt, b"end\n");
-    }
+fn answer_arguments<R: Env + Files + Input + Print, E: Print>(
+    console: &Console<'_, R, E>,
+) -> io::Result<()> {
+    let mut room = [0u8; 4096];
+    let word: &[u8] = argument(console.rt, 1, &mut room)?;
+    answer_call(console, word, count_arguments(console.rt))?;
+    console.rt.print("end\n")
 }
 
 // More arguments than any call has.
@@ -67,20 +70,18 @@ fn is_given<R: Env>(rt: &R, place: usize) -> bool {
     !matches!(rt.arg(place, &mut []), Err(FillError::NotPresent))
 }
 
-// Answers whether the call was answered, and all of the answer printed.
 fn answer_call<R: Env + Files + Input + Print, E: Print>(
-    rt: &R,
-    errors: &E,
+    console: &Console<'_, R, E>,
     word: &[u8],
     arguments: usize,
-) -> bool {
+) -> io::Result<()> {
     match (word, arguments) {
-        (b"new", 4) => new_tray(rt, errors),
-        (b"load", 5) => answer_state(rt, errors, Call::Change(Change::Load)),
-        (b"remove", 5) => answer_state(rt, errors, Call::Change(Change::Remove)),
-        (b"post", 7) => answer_state(rt, errors, Call::Change(Change::Post)),
-        (b"seal", 3) => answer_state(rt, errors, Call::Seal),
-        (b"show", 3) => answer_state(rt, errors, Call::Show),
-        _ => false,
+        (b"new", 4) => console.new_tray(),
+        (b"load", 5) => console.answer_state(Call::Change(Change::Load)),
+        (b"remove", 5) => console.answer_state(Call::Change(Change::Remove)),
+        (b"post", 7) => console.answer_state(Call::Change(Change::Post)),
+        (b"seal", 3) => console.answer_state(Call::Seal),
+        (b"show", 3) => console.answer_state(Call::Show),
+        _ => Err(ErrorKind::InvalidInput.into()),
     }
 }

@@ -3,6 +3,7 @@ ghost use Rattle.std.specs.Prelude.{◌<◌, get_or, ◌≡◌};
 ghost use Rattle.answer.specs.Text.{ascii, digit};
 ghost use Rattle.tray_file.specs.State.{state_word, seat_line, text_length, state_text};
 
+use std::array;
 use tray::{SEATS, Seat, SeatState};
 
 // How long the heading is, a seat's line, and all of the text, each with its line ends.
@@ -15,21 +16,15 @@ pub const TEXT_LENGTH: usize = HEADING_LENGTH + SEATS * LINE_LENGTH;
 const HEADING: [u8; HEADING_LENGTH] = *b"station tray\n";
 
 // The whole text, byte after byte.
-pub fn state_text(seats: [Seat; SEATS]) -> [u8; TEXT_LENGTH]
-    ensures { result ≡ state_text seats }
+pub fn state_text(seats: &[Seat; SEATS]) -> [u8; TEXT_LENGTH]
+    ensures { result ≡ state_text seats.now }
 {
-    let mut text = [0u8; TEXT_LENGTH];
-    let mut place: usize = 0;
-    while place < TEXT_LENGTH {
-        text[place] = state_byte(seats, place);
-        place += 1;
-    }
-    text
+    array::from_fn(|place| state_byte(seats, place))
 }
 
-fn state_byte(seats: [Seat; SEATS], place: usize) -> u8
+fn state_byte(seats: &[Seat; SEATS], place: usize) -> u8
     requires { place < text_length }
-    ensures { result ≡ get_or (state_text seats) place 0 }
+    ensures { result ≡ get_or (state_text seats.now) place 0 }
 {
     if place < HEADING_LENGTH {
         return HEADING[place];
@@ -45,22 +40,11 @@ pub fn seat_line(number: usize, seat: Seat) -> [u8; LINE_LENGTH]
     requires { number < 100 }
     ensures { result ≡ seat_line number seat }
 {
-    let state = seat.state;
-    let w = state_word(state);
-    [
-        digit(number / 10),
-        digit(number % 10),
-        b' ',
-        w[0],
-        w[1],
-        w[2],
-        w[3],
-        w[4],
-        w[5],
-        w[6],
-        w[7],
-        b'\n',
-    ]
+    let mut line = *b"           \n";
+    line[0] = digit(number / 10);
+    line[1] = digit(number % 10);
+    line[3..11].copy_from_slice(&state_word(seat.state));
+    line
 }
 
 fn digit(number: usize) -> u8

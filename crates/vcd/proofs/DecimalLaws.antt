@@ -18,9 +18,9 @@ enough (suc k) n small = by_test (λ less. enough k (n / 10) less) (ltb n 10) re
     by_test rest true e = refl
     by_test rest false e = rw (rest (omega (arith, pow-suc 10 (suc k))))
 
-pub one_digit : (n : ℕ) → n < 10 → decimal n ≡ digit n ∷ []
+pub one_digit : (n : ℕ) → n < 10 → decimal n ≡ digit (n % 10) ∷ []
 unfolding decimal_in
-one_digit n small = rw (lt-ltb n 10 small)
+one_digit n small = let same : n % 10 ≡ n = omega arith in rw (lt-ltb n 10 small, same)
 
 pub more_digits : (n : ℕ) → 10 ≤ n → n < 10 ^ 10 → decimal n ≡ decimal (n / 10) ++ (digit (n % 10) ∷ [])
 unfolding decimal_in

@@ -1,9 +1,9 @@
 -- What the entry answers and leaves, for any bytes, any offset and any destination; and that the pieces which a caller asks for one after
 -- another are the dump.
-use Rattle.std.specs.Prelude.{ℕ, ◌+◌, ◌≤◌, List, ◌++◌, length, drop, ◌≡◌, ◌↔◌}
+use Rattle.std.specs.Prelude.{ℕ, Ok, Err, ◌+◌, ◌≤◌, List, ◌++◌, length, drop, ◌≡◌, ◌↔◌}
 use Rattle.answer.specs.Types.{Answer}
 use Rattle.answer.specs.Answers.{refused, accepted, ◌over◌, first}
-use Rattle.recording.specs.{Types.Form, Types.Good, Types.Refused, Form.form_of, GoodForm.GoodForm, Ticks.steps_of}
+use Rattle.recording.specs.{Form.Form, Form.form_of, GoodForm.GoodForm, Ticks.steps_of}
 use Rattle.vcd.specs.Dump.{dump}
 
 -- What the entry leaves: an answer, and the destination.
@@ -24,8 +24,8 @@ leaves_piece piece destination = leaves (accepted (length piece)) (piece over de
 
 -- A recording whose form was tested. At a refusal the destination does not change.
 unfoldable pub dumped_in_form : (file : List ℕ) → Form → (offset : ℕ) (destination : List ℕ) → Dumped
-dumped_in_form file (Refused refusal step) offset destination = leaves (refused refusal step) destination
-dumped_in_form file (Good n) offset destination =
+dumped_in_form file (Err r) offset destination = leaves (refused r.refusal r.step) destination
+dumped_in_form file (Ok n) offset destination =
     leaves_piece (piece (dump (steps_of file)) offset (length destination)) destination
 
 -- What the entry gives: the form is tested first (1 to 8).

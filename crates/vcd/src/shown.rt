@@ -1,4 +1,5 @@
-// What the wires show in a step, as one byte: the lines, and in the first tick of a marked step the bit above them.
+// What the wires show in a step, as one byte: the lines, and in the first tick of a marked step the bit above them. A byte and no struct:
+// `shown_in` of specs/Wires.antt is that number.
 ghost use Rattle.std.specs.Prelude.{◌<◌, ◌≡◌};
 ghost use Rattle.recording.specs.Layout.{line_bound};
 ghost use Rattle.vcd.specs.Steps.{shown_first, shown_last};

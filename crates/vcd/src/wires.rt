@@ -1,9 +1,8 @@
 // The five wires, and their values.
 ghost use Rattle.std.specs.Prelude.{◌≡◌};
-ghost use Rattle.vcd.specs.Put.{held, Puts};
+ghost use Rattle.vcd.specs.Put.{Puts};
 ghost use Rattle.vcd.specs.Wires.{bit_of, identifier_of, high_bit, level_of, value_text, change_text, each_wire};
 
-use crate::window;
 use crate::window::Window;
 
 #[derive(Clone, Copy)]
@@ -15,6 +14,9 @@ pub(crate) enum Wire {
     // No line of the bus: where the recorder lost ticks.
     Lost,
 }
+
+// In the order in which they are put down.
+const WIRES: [Wire; 5] = [Wire::Atn, Wire::Clk, Wire::Data, Wire::Srq, Wire::Lost];
 
 impl Wire {
     // Document 01: "bit 0 ATN, 1 CLK, 2 DATA, 3 SRQ", 1 when pulled; bit 4 is LOST, 1 when ticks were lost.
@@ -47,10 +49,7 @@ impl Wire {
         ensures { result ≡ high_bit self }
     {
         match self {
-            Wire::Atn => 0,
-            Wire::Clk => 0,
-            Wire::Data => 0,
-            Wire::Srq => 0,
+            Wire::Atn | Wire::Clk | Wire::Data | Wire::Srq => 0,
             Wire::Lost => 1,
         }
     }
@@ -65,44 +64,40 @@ impl Wire {
     }
 }
 
-// The value of one wire, as 0C or 1C.
-fn put_value(destination: &mut [u8], window: Window, shown: u8, wire: Wire) -> Window
-    ensures { Puts (value_text shown wire) (held window destination.old) (held result destination.new) }
-{
-    let window = window::put_byte(destination, window, wire.level(shown));
-    let window = window::put_byte(destination, window, wire.identifier());
-    window::put_byte(destination, window, b'\n')
-}
-
-// The value of one wire, if it differs from what was shown before.
-fn put_change(destination: &mut [u8], window: Window, before: u8, shown: u8, wire: Wire) -> Window
-    ensures { Puts (change_text before shown wire) (held window destination.old) (held result destination.new) }
-{
-    if wire.bit(before) == wire.bit(shown) {
-        return window;
+impl Window<'_> {
+    // The value of one wire, as 0C or 1C.
+    fn put_value(&mut self, shown: u8, wire: Wire)
+        ensures { Puts (value_text shown wire) self.old self.new }
+    {
+        self.put_byte(wire.level(shown));
+        self.put_byte(wire.identifier());
+        self.put_byte(b'\n');
     }
-    put_value(destination, window, shown, wire)
-}
 
-// The value of every wire.
-pub(crate) fn put_values(destination: &mut [u8], window: Window, shown: u8) -> Window
-    ensures { Puts (each_wire (value_text shown)) (held window destination.old) (held result destination.new) }
-{
-    let window = put_value(destination, window, shown, Wire::Atn);
-    let window = put_value(destination, window, shown, Wire::Clk);
-    let window = put_value(destination, window, shown, Wire::Data);
-    let window = put_value(destination, window, shown, Wire::Srq);
-    put_value(destination, window, shown, Wire::Lost)
-}
+    // The value of one wire, if it differs from what was shown before.
+    fn put_change(&mut self, before: u8, shown: u8, wire: Wire)
+        ensures { Puts (change_text before shown wire) self.old self.new }
+    {
+        if wire.bit(before) != wire.bit(shown) {
+            self.put_value(shown, wire);
+        }
+    }
 
-// The values of those wires that differ.
-pub(crate) fn put_changes(destination: &mut [u8], window: Window, before: u8, shown: u8) -> Window
-    ensures { Puts (each_wire (change_text before shown))
-        (held window destination.old) (held result destination.new) }
-{
-    let window = put_change(destination, window, before, shown, Wire::Atn);
-    let window = put_change(destination, window, before, shown, Wire::Clk);
-    let window = put_change(destination, window, before, shown, Wire::Data);
-    let window = put_change(destination, window, before, shown, Wire::Srq);
-    put_change(destination, window, before, shown, Wire::Lost)
+    // The value of every wire.
+    pub(crate) fn put_values(&mut self, shown: u8)
+        ensures { Puts (each_wire (value_text shown)) self.old self.new }
+    {
+        for wire in WIRES {
+            self.put_value(shown, wire);
+        }
+    }
+
+    // The values of those wires that differ.
+    pub(crate) fn put_changes(&mut self, before: u8, shown: u8)
+        ensures { Puts (each_wire (change_text before shown)) self.old self.new }
+    {
+        for wire in WIRES {
+            self.put_change(before, shown, wire);
+        }
+    }
 }

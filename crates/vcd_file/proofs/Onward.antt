@@ -1,10 +1,10 @@
 -- A piece of a dump lies within its destination, and the offset after it is still a number of 32 bits. Assumes nothing.
-use Rattle.std.specs.Prelude.{ℕ, ◌+◌, ◌≤◌, ◌<◌, List, length, drop, ◌≡◌}
-use mathlib.Core.Path.{refl, ap, ◌∙◌}
+use Rattle.std.specs.Prelude.{ℕ, Ok, Err, ◌+◌, ◌≤◌, ◌<◌, List, length, drop, ◌≡◌}
+use mathlib.Core.Path.{refl, sym, ap, ◌∙◌}
 use native.Mathlib.Omega.{arith}
 use lib.ListN.{length-take, length-drop}
 use Rattle.answer.specs.Types.{Answer}
-use Rattle.recording.specs.{Types.Form, Types.Good, Types.Refused, Form.form_of, Ticks.steps_of}
+use Rattle.recording.specs.{Form.Form, Form.form_of, Ticks.steps_of}
 use Rattle.recording.proofs.{GoodFormLaws.good_form, StepLaws.steps_count}
 use Rattle.vcd.specs.{Dump.dump, Dumped.Dumped, Dumped.leaves, Dumped.dumped}
 use Rattle.vcd.proofs.{DumpedLaws.is_refused, DumpedLaws.is_piece, LengthLaws.dump_length}
@@ -20,10 +20,10 @@ module _ (r : Answer) (file : List ℕ) (offset : ℕ) (before after : List ℕ)
 
   by_form : (form : Form) → form_of file ≡ form → Onward offset r.count (length after)
   unfolding steps_of
-  by_form (Refused refusal step) f =
-      let none = counted (is_refused file offset before refusal step f) in
+  by_form (Err refused) f =
+      let none = counted (sym (is_refused file offset before refused f)) in
       record { within = omega (arith, none); next = λ some. absurd (some none) }
-  by_form (Good n) f =
+  by_form (Ok n) f =
       let text = dump (steps_of file) in
       let form = (good_form file n).0 f in
       let steps : length (steps_of file) ≡ n = rw (← form.counted) (steps_count file n 0) in

@@ -24,12 +24,7 @@ fn dump_source<R: Env + Files + Input + Print, E: Print>(rt: &R, errors: &E) {
     let mut name = [0u8; 4096];
     let mut room = [0u8; 65536];
     let source = read_source(rt, errors, 1, &mut name, &mut room);
-    if source.is_read {
-        print_dump(
-            rt,
-            errors,
-            &room[..source.length],
-            &name[..source.name_length],
-        );
+    if let Some(file) = source.file {
+        print_dump(rt, errors, file, source.name);
     }
 }

@@ -11,77 +11,68 @@
 mod saving;
 
 use crate::saving::{PLACE, is_standard_output, save};
-use files::{argument, fail, hide_controls, print_answer, print_failure, read_input};
+use answer::Answer;
+use files::{fail, hide_controls, named_argument, print_answer, print_failure, read_input};
+use std::io;
 use std::io::{Input, Print};
 use std::rt::{Env, Files};
 
 fn main(rt: HostRuntime) {
-    write_to_place(&rt, &rt.stderr());
+    let _ = write_to_place(&rt, &rt.stderr());
 }
 
-fn write_to_place<R: Env + Files + Input + Print, E: Print>(rt: &R, errors: &E) {
+fn write_to_place<R: Env + Files + Input + Print, E: Print>(rt: &R, errors: &E) -> io::Result<()> {
     let mut place = [0u8; 4096];
-    let place_length = match argument(rt, PLACE, &mut place) {
-        Ok(given) => given,
-        Err(error) => return fail(errors, b"the place to write", error),
-    };
+    let place = named_argument(rt, errors, PLACE, b"the place to write", &mut place)?;
     let mut name = [0u8; 4096];
-    let name_length = match argument(rt, 2, &mut name) {
-        Ok(given) => given,
-        Err(error) => return fail(errors, b"the recording's name", error),
+    let name = named_argument(rt, errors, 2, b"the recording's name", &mut name)?;
+    hide_controls(name);
+    let writing = Writing {
+        rt,
+        errors,
+        place,
+        name,
     };
-    hide_controls(&mut name[..name_length]);
-    if is_standard_output(&place[..place_length]) {
-        write_input(
-            rt,
-            errors,
-            errors,
-            &place[..place_length],
-            &name[..name_length],
-        );
+    if is_standard_output(place) {
+        writing.write_input(errors)
     } else {
-        write_input(rt, errors, rt, &place[..place_length], &name[..name_length]);
+        writing.write_input(rt)
     }
 }
 
-fn write_input<R: Env + Files + Input + Print, E: Print, A: Print>(
-    rt: &R,
-    errors: &E,
-    answers: &A,
-    place: &[u8],
-    name: &[u8],
-) {
-    // More room than bytes may be given: a longer input fills it, and is refused for its length all the same.
-    let mut bytes = [0u8; 4096];
-    let input = read_input(&mut rt.reader(), &mut bytes);
-    let is_printed = match input.reason {
-        Some(error) => {
-            fail(errors, b"standard input", error);
-            print_failure(answers, b"unreadable", b"-")
-        }
-        None => write_bytes(rt, errors, answers, &bytes[..input.length], place, name),
-    };
-    if is_printed {
-        let _ = answers.write_all(b"end\n");
-    }
+// Where a recording is written, and what the place is called.
+#[derive(Drop)]
+struct Writing<'a, R, E> {
+    rt: &'a R,
+    errors: &'a E,
+    place: &'a [u8],
+    name: &'a [u8],
 }
 
-// Answers whether all of the answer was printed.
-fn write_bytes<R: Env + Files + Print, E: Print, A: Print>(
-    rt: &R,
-    errors: &E,
-    answers: &A,
-    bytes: &[u8],
-    place: &[u8],
-    name: &[u8],
-) -> bool {
-    let mut destination = [0u8; 65536];
-    let answer = writer::write(bytes, &mut destination);
-    if answer.number == 0 {
-        if let Err(error) = save(rt, place, &destination[..answer.count as usize]) {
-            fail(errors, name, error);
-            return print_failure(answers, b"unwritable", name);
+impl<R: Env + Files + Input + Print, E: Print> Writing<'_, R, E> {
+    fn write_input<A: Print>(&self, answers: &A) -> io::Result<()> {
+        // More room than bytes may be given: a longer input fills it, and is refused for its length all the same.
+        let mut bytes = [0u8; 4096];
+        match read_input(&mut self.rt.reader(), &mut bytes) {
+            Ok(bytes) => self.write_bytes(answers, bytes)?,
+            Err(error) => {
+                fail(self.errors, b"standard input", error);
+                print_failure(answers, b"unreadable", b"-")?;
+            }
         }
+        answers.print("end\n")
     }
-    print_answer(answers, answer, name)
+
+    fn write_bytes<A: Print>(&self, answers: &A, bytes: &[u8]) -> io::Result<()> {
+        let mut destination = [0u8; 65536];
+        let written = writer::write(bytes, &mut destination);
+        if let Ok(length) = written {
+            let recording = &destination[..length as usize];
+            if let Err(error) = save(self.rt, self.place, recording) {
+                fail(self.errors, self.name, error);
+                return print_failure(answers, b"unwritable", self.name);
+            }
+        }
+        print_answer(answers, Answer::from(written), self.name)
+    }
 }

@@ -8,7 +8,7 @@ pub const PLACE: usize = 1;
 
 // Standard output is called `-`.
 pub fn is_standard_output(place: &[u8]) -> bool {
-    place.len() == 1 && place[0] == b'-'
+    matches!(place, b"-")
 }
 
 // The error is why not all of it was written.

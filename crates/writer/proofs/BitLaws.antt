@@ -1,10 +1,13 @@
--- The steps of a value's bits, two at a time, for a loop at bit k of eight. Assumes nothing.
-use Rattle.std.specs.Prelude.{ℕ, zero, suc, ◌+◌, ◌-◌, ◌*◌, ◌/◌, ◌%◌, ◌<◌, List, [], ◌∷◌, length, ◌≡◌}
+-- The steps of a value's bits, one bit more each time. Assumes nothing.
+use Rattle.std.specs.Prelude.{ℕ, zero, suc, ◌+◌, ◌*◌, ◌/◌, ◌%◌, ◌^◌, List, [], ◌∷◌, ◌++◌, length, ◌≡◌}
 use mathlib.Core.Path.{refl, sym, ap, ◌∙◌}
-use native.Mathlib.Omega.{arith}
-use Rattle.writer.specs.{WrittenSteps.shows, WrittenSteps.bit_steps, Put.with_steps, Put.Put}
+use native.Mathlib.Nat.{div-div-eq-div-mul, pow-suc}
+use native.Mathlib.{Numerals.add-one, Omega.arith}
+use Rattle.recording.specs.Types.{Step}
+use Rattle.writer.specs.{WrittenSteps.shows, WrittenSteps.bit_steps, Put.Put}
 use Rattle.writer.specs.declared.card.Card.{Card}
-use Rattle.writer.proofs.PieceLaws.{goes_on, and_then, no_steps}
+use Rattle.writer.specs.declared.steps.StepWriter.{StepWriter}
+use Rattle.writer.proofs.PieceLaws.{and_then}
 
 module _ (card : Card) where
   pub bits_count : (k value : ℕ) → length (bit_steps card k value) ≡ 2 * k
@@ -12,24 +15,23 @@ module _ (card : Card) where
   bits_count zero value = refl
   bits_count (suc k) value = let rest = bits_count k (value / 2) in omega arith
 
-  -- Bit k is put down in two steps; v is what was left of the value.
-  pub bit_goes_on : (k v : ℕ) {d d₁ d₂ : List ℕ} {i j m : ℕ} → k < 8
-      → Put d d₁ i j (shows 1 (v % 2) card.set_up ∷ []) → Put d₁ d₂ j m (shows 0 (v % 2) card.valid ∷ [])
-      → with_steps d i (bit_steps card (8 - k) v) ≡ with_steps d₂ m (bit_steps card (8 - (k + 1)) (v / 2))
-  unfolding bit_steps
-  bit_goes_on k v {d} {i = i} left set_up valid =
-      let rest = bit_steps card (8 - (k + 1)) (v / 2) in
-      let one_less : 8 - k ≡ suc (8 - (k + 1)) = omega arith in
-      ap (λ (n : ℕ). with_steps d i (bit_steps card n v)) one_less
-      ∙ goes_on (and_then set_up valid) rest
+  abbrev pub one_bit : (dat : ℕ) → List Step
+  one_bit dat = shows 1 dat card.set_up ∷ shows 0 dat card.valid ∷ []
 
-  -- No bit is left.
-  pub bits_put : (k v value : ℕ) (d d₁ : List ℕ) (i j : ℕ) → k ≡ 8 → j ≡ i + 2 * k
-      → with_steps d i (bit_steps card 8 value) ≡ with_steps d₁ j (bit_steps card (8 - k) v) → Put d d₁ i j (bit_steps card 8 value)
+  one_more_bit : (k value : ℕ) → bit_steps card (suc k) value ≡ bit_steps card k value ++ one_bit (value / 2 ^ k % 2)
   unfolding bit_steps
-  bits_put k v value d d₁ i j all place inv =
-      let none : 8 - k ≡ 0 = omega arith in
-      record {
-        there = sym (inv ∙ rw none (no_steps d₁ j));
-        after = omega (arith, bits_count 8 value);
-      }
+  one_more_bit zero value = let one : value / 1 ≡ value = omega arith in rw one
+  one_more_bit (suc k) value =
+      let twice : 2 * 2 ^ k ≡ 2 ^ suc k = omega (arith, pow-suc 2 k) in
+      let half : value / 2 ^ suc k ≡ value / 2 / 2 ^ k = sym (div-div-eq-div-mul value 2 (2 ^ k) ∙ rw twice) in
+      let rest = one_more_bit k (value / 2) in
+      rw half (ap (λ (steps : List Step). shows 1 (value % 2) card.set_up ∷ shows 0 (value % 2) card.valid ∷ steps) rest)
+
+-- For a loop at bit k of a value.
+pub bit_put : (k value : ℕ) {w w₁ w₂ w₃ : StepWriter} → Put (bit_steps w.card k value) w w₁
+    → Put (shows 1 (value / 2 ^ k % 2) w₁.card.set_up ∷ []) w₁ w₂ → Put (shows 0 (value / 2 ^ k % 2) w₂.card.valid ∷ []) w₂ w₃
+    → Put (bit_steps w.card (k + 1) value) w w₃
+bit_put k value {w} put set_up valid =
+    let dat = value / 2 ^ k % 2 in
+    let both = and_then (λ card. shows 0 dat card.valid ∷ []) set_up valid in
+    rw (add-one, one_more_bit w.card k value) (and_then (λ card. one_bit card dat) put both)

@@ -1,10 +1,9 @@
 -- The pieces of a byte, and how many steps they are. Assumes nothing.
 use Rattle.std.specs.Prelude.{ℕ, ◌+◌, List, [], ◌++◌, length, ◌≡◌}
-use mathlib.Core.Path.{refl, ◌∙◌}
+use mathlib.Core.Path.{refl}
 use native.Mathlib.Omega.{arith}
 use lib.ListN.{length-append}
 use Rattle.recording.specs.Types.{Step}
-use Rattle.writer.specs.Put.{Put}
 use Rattle.writer.specs.WrittenSteps.{byte_steps, end_gap, closing, sent_steps, opening, value_steps}
 use Rattle.writer.specs.declared.card.Card.{Card}
 use Rattle.writer.proofs.BitLaws.{bits_count}
@@ -25,10 +24,6 @@ module _ (card : Card) (value : ℕ) where
   byte_count gap =
       let bits = bits_count card 8 value in
       rw (byte_pieces gap) (simp length-append (omega arith))
-
-  -- The step after a byte.
-  pub byte_next : (gap : List Step) {d d₁ : List ℕ} {i j : ℕ} → Put d d₁ i j (byte_steps card gap value) → j ≡ i + (length gap + 19)
-  byte_next gap put = put.after ∙ rw (byte_count gap)
 
   pub last_count : length (sent_steps card value []) ≡ 25
   last_count = let byte = byte_count (end_gap card) in rw last_pieces (simp length-append (omega arith))

@@ -1,12 +1,14 @@
--- The steps of a string, a byte at a time, for a loop at byte i. Assumes nothing.
-use Rattle.std.specs.Prelude.{ℕ, suc, ◌+◌, ◌*◌, ◌≤◌, ◌<◌, List, [], ◌∷◌, ◌++◌, length, drop, get_or, ◌≡◌}
-use mathlib.Core.Path.{refl, sym}
-use native.Mathlib.{Numerals.add-one, Omega.arith}
-use lib.{ListN.length-append, ListN.length-drop, ListN.drop_of_length-le, Seq.drop-cons}
-use Rattle.writer.specs.{Written.written_step_count, Put.with_steps, Put.Put}
+-- The steps of a string: those of all bytes but the last, and of the last. Assumes nothing.
+use Rattle.std.specs.Prelude.{ℕ, ◌+◌, ◌*◌, ◌≤◌, List, [], ◌∷◌, ◌++◌, length, take, ◌≡◌}
+use Rattle.std.specs.List.{flat_map}
+use mathlib.Core.{List.append-nil, List.append_assoc, Path.refl, Path.sym}
+use native.Mathlib.Omega.{arith}
+use lib.ListN.{length-append, length-take}
+use Rattle.writer.specs.{Written.written_step_count, Put.Put}
 use Rattle.writer.specs.WrittenSteps.{byte_steps, plain_gap, sent_steps, empty_steps, written_steps}
 use Rattle.writer.specs.declared.card.Card.{Card}
-use Rattle.writer.proofs.{PieceLaws.goes_on, ByteLaws.byte_count, ByteLaws.last_count}
+use Rattle.writer.specs.declared.steps.StepWriter.{StepWriter}
+use Rattle.writer.proofs.ByteLaws.{byte_count, last_count}
 
 module _ (card : Card) where
   pub no_bytes : (bytes : List ℕ) → length bytes ≡ 0 → written_steps card bytes ≡ empty_steps card
@@ -14,30 +16,21 @@ module _ (card : Card) where
   no_bytes [] none = refl
   no_bytes (first ∷ others) none = absurd (omega arith)
 
-  byte_first : (first : ℕ) (others : List ℕ) → 1 ≤ length others
-      → written_steps card (first ∷ others) ≡ byte_steps card (plain_gap card) first ++ written_steps card others
+  -- All bytes but the last, and then the last.
+  pub last_after : (others : List ℕ) (last : ℕ)
+      → written_steps card (others ++ (last ∷ [])) ≡ flat_map (byte_steps card (plain_gap card)) others ++ sent_steps card last []
   unfolding written_steps sent_steps
-  byte_first first [] some = absurd (omega arith)
-  byte_first first (second ∷ others) some = refl
+  last_after [] last = refl
+  last_after (first ∷ []) last = rw append-nil
+  last_after (first ∷ second ∷ others) last =
+      rw (last_after (second ∷ others) last) (sym (append_assoc (byte_steps card (plain_gap card) first) _ _))
 
-  module _ (bytes : List ℕ) (i : ℕ) {d d₁ : List ℕ} {j k : ℕ} where
-    -- Byte i, which is not the last, is put down: what follows it is left.
-    pub byte_goes_on : i + 1 < length bytes → Put d d₁ j k (byte_steps card (plain_gap card) (get_or bytes i 0))
-        → with_steps d j (written_steps card (drop i bytes)) ≡ with_steps d₁ k (written_steps card (drop (i + 1) bytes))
-    byte_goes_on more put =
-        let others = drop (suc i) bytes in
-        let some : 1 ≤ length others = simp length-drop (omega arith) in
-        rw (drop-cons bytes i 0 (omega arith), byte_first (get_or bytes i 0) others some, add-one i)
-        (goes_on put (written_steps card others))
-
-    -- Only byte i is left, and is put down.
-    pub last_put : i + 1 ≡ length bytes → Put d d₁ j k (sent_steps card (get_or bytes i 0) [])
-        → with_steps d j (written_steps card (drop i bytes)) ≡ d₁
-    unfolding written_steps
-    last_put end put =
-        let past : length bytes ≤ suc i = omega arith in
-        let none : drop (suc i) bytes ≡ [] = drop_of_length-le bytes past in
-        rw (drop-cons bytes i 0 (omega arith), none) (sym put.there)
+  others_count : (others : List ℕ) → length (flat_map (byte_steps card (plain_gap card)) others) ≡ 20 * length others
+  others_count [] = refl
+  others_count (first ∷ others) =
+      let byte = byte_count card first (plain_gap card) in
+      let rest = others_count others in
+      simp length-append (omega arith)
 
   sent_count : (first : ℕ) (others : List ℕ) → length (sent_steps card first others) ≡ 20 * length others + 25
   unfolding sent_steps
@@ -52,3 +45,9 @@ module _ (card : Card) where
   unfolding written_steps
   written_count [] = refl
   written_count (first ∷ others) = let sent = sent_count first others in omega arith
+
+-- The next step for a loop at byte i of those before the last.
+pub bytes_next : (others : List ℕ) (i : ℕ) {w w₁ : StepWriter} → i ≤ length others
+    → Put (flat_map (byte_steps w.card (plain_gap w.card)) (take i others)) w w₁ → w₁.next ≡ w.next + 20 * i
+bytes_next others i {w} within put =
+    omega (arith, put.next, others_count w.card (take i others), length-take i others)

@@ -1,13 +1,14 @@
 // The entry: a recording of given bytes, put down in a lent destination.
 ghost use Rattle.std.specs.Prelude.{◌≤◌, length, ◌≡◌};
-ghost use Rattle.answer.specs.Answers.{◌over◌};
+ghost use Rattle.answer.specs.Answers.{answered, ◌over◌};
 ghost use Rattle.transfer.specs.Limits.{standard_limits};
 ghost use Rattle.writer.specs.{Card.standard_card, Promise.WritePromise};
 ghost use Rattle.writer.specs.Written.{most_bytes, written_length, recording_of, leaves};
 
 use crate::card::Card;
+use crate::steps::StepWriter;
 use crate::{string, ticks};
-use answer::{Answer, Refusal};
+use answer::{Refusal, Refused};
 use recording::{Header, Step};
 
 // More bytes than this are refusal 10.
@@ -15,19 +16,19 @@ const MOST_BYTES: usize = 799;
 
 // Writes the sample recording of the bytes. Promised, first: the answer and the destination, whole, are what `written` gives. Second,
 // demand 2: where no refusal is due, what was put down is read back by the judge, with room enough, as these very bytes.
-pub fn write(bytes: &[u8], destination: &mut [u8]) -> Answer
+pub fn write(bytes: &[u8], destination: &mut [u8]) -> Result<u32, Refused>
     ensures { WritePromise standard_limits standard_card bytes.now destination.old
-        (leaves result destination.new) }
+        (leaves (answered result) destination.new) }
 {
     if bytes.len() > MOST_BYTES {
-        return Answer::refused(Refusal::TooManyBytes, 0);
+        return Err(Refusal::TooManyBytes.into());
     }
     let length = written_length(bytes.len());
     if destination.len() < length {
-        return Answer::refused(Refusal::ShortDestination, 0);
+        return Err(Refusal::ShortDestination.into());
     }
     put_recording(bytes, destination, Card::standard());
-    Answer::accepted(length as u32)
+    Ok(length as u32)
 }
 
 // How long the recording of so many bytes is.
@@ -47,5 +48,5 @@ fn put_recording(bytes: &[u8], destination: &mut [u8], card: Card)
     let total = ticks::total_ticks(card, bytes.len() as u32);
     let header = Header::of_steps(steps as u16, total);
     header.write(destination);
-    string::put_bytes(bytes, destination, card);
+    StepWriter::new(destination, card).put_bytes(bytes);
 }

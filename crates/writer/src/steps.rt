@@ -1,107 +1,124 @@
-// The pieces of a written recording. Each function puts its steps down from step `first` on, and hands back the step after them.
-ghost use Rattle.std.specs.Prelude.{◌+◌, ◌≤◌, [], ◌∷◌, length};
-ghost use Rattle.recording.specs.Layout.{step_place};
-ghost use Rattle.writer.specs.Put.{Put};
+// The pieces of a written recording, put down one after another.
+ghost use Rattle.std.specs.Prelude.{◌+◌, ◌≤◌, [], ◌∷◌, ◌≡◌};
+ghost use Rattle.writer.specs.Put.{before_steps, Room, Put};
 ghost use Rattle.writer.specs.WrittenSteps.{shows, bit_steps, byte_steps, plain_gap, sent_steps, closing, empty_steps, opening};
 ghost use Rattle.writer.specs.WrittenSteps.{acknowledged, value_steps};
 
 use crate::card::Card;
 use recording::Step;
 
-// The lines (clk,dat) for so many ticks. CLK is bit 1 of the line byte, DATA bit 2.
-fn put_lines(destination: &mut [u8], first: usize, clk: u8, dat: u8, duration: u16) -> usize
-    requires { (clk ≤ 1) × (dat ≤ 1) × (step_place (first + 1) ≤ length destination.old) }
-    ensures { Put destination.old destination.new first result (shows clk dat duration ∷ []) }
-{
-    let step = Step {
-        duration,
-        lines: 2 * clk + 4 * dat,
-        last: 0,
-    };
-    step.write(destination, first);
-    first + 1
+// Where steps are put down, and how long they last.
+#[derive(Drop)]
+pub(crate) struct StepWriter<'a> {
+    destination: &'a mut [u8],
+    // The number of the step that comes next.
+    next: usize,
+    card: Card,
 }
 
-// Both hold, then the sender is ready to send: every byte, the closing and the empty stream begin so.
-fn put_opening(destination: &mut [u8], first: usize, card: Card) -> usize
-    requires { step_place (first + 2) ≤ length destination.old }
-    ensures { Put destination.old destination.new first result (opening card) }
-{
-    let next = put_lines(destination, first, 1, 1, card.hold);
-    put_lines(destination, next, 0, 1, card.ready_to_send)
-}
-
-// The long gap, the receiver's acknowledgement, and so many ticks after it.
-fn put_acknowledged(destination: &mut [u8], first: usize, card: Card, after: u16) -> usize
-    requires { step_place (first + 3) ≤ length destination.old }
-    ensures { Put destination.old destination.new first result (acknowledged card after) }
-{
-    let next = put_lines(destination, first, 0, 0, card.end_gap);
-    let next = put_lines(destination, next, 0, 1, card.acknowledgement);
-    put_lines(destination, next, 0, 0, after)
-}
-
-// The eight bits, least significant first.
-fn put_bits(destination: &mut [u8], first: usize, card: Card, value: u8) -> usize
-    requires { step_place (first + 16) ≤ length destination.old }
-    ensures { Put destination.old destination.new first result (bit_steps card 8 value) }
-{
-    let mut next = first;
-    let mut left = value;
-    let mut bit: usize = 0;
-    while bit < 8 {
-        next = put_lines(destination, next, 1, left % 2, card.set_up);
-        next = put_lines(destination, next, 0, left % 2, card.valid);
-        left = left / 2;
-        bit += 1;
+impl<'a> StepWriter<'a> {
+    // Before the first step.
+    pub(crate) fn new(destination: &'a mut [u8], card: Card) -> StepWriter<'a>
+        ensures { result ≡ before_steps destination.entry card }
+    {
+        StepWriter {
+            destination,
+            next: 0,
+            card,
+        }
     }
-    next
-}
 
-// The bits, and the wait for the take.
-fn put_value(destination: &mut [u8], first: usize, card: Card, value: u8) -> usize
-    requires { step_place (first + 17) ≤ length destination.old }
-    ensures { Put destination.old destination.new first result (value_steps card value) }
-{
-    let next = put_bits(destination, first, card, value);
-    put_lines(destination, next, 1, 0, card.take)
-}
+    // The lines (clk,dat) for so many ticks. CLK is bit 1 of the line byte, DATA bit 2. Both are 0 or 1 and no bool: `shows` takes numbers,
+    // and the bits of a value are numbers too.
+    fn put_lines(&mut self, clk: u8, dat: u8, duration: u16)
+        requires { (clk ≤ 1) × (dat ≤ 1) × Room self.old 1 }
+        ensures { Put (shows clk dat duration ∷ []) self.old self.new }
+    {
+        let step = Step {
+            duration,
+            lines: 2 * clk + 4 * dat,
+            last: 0,
+        };
+        step.write(self.destination, self.next);
+        self.next += 1;
+    }
 
-// A byte that is not the last.
-pub(crate) fn put_byte(destination: &mut [u8], first: usize, card: Card, value: u8) -> usize
-    requires { step_place (first + 20) ≤ length destination.old }
-    ensures { Put destination.old destination.new first result (byte_steps card (plain_gap card) value) }
-{
-    let next = put_opening(destination, first, card);
-    let next = put_lines(destination, next, 0, 0, card.gap);
-    put_value(destination, next, card, value)
-}
+    // Both hold, then the sender is ready to send: every byte, the closing and the empty stream begin so.
+    fn put_opening(&mut self)
+        requires { Room self.old 2 }
+        ensures { Put (opening self.old.card) self.old self.new }
+    {
+        self.put_lines(1, 1, self.card.hold);
+        self.put_lines(0, 1, self.card.ready_to_send);
+    }
 
-// The last letting go, and the silence after it.
-fn put_closing(destination: &mut [u8], first: usize, card: Card) -> usize
-    requires { step_place (first + 3) ≤ length destination.old }
-    ensures { Put destination.old destination.new first result (closing card) }
-{
-    let next = put_opening(destination, first, card);
-    put_lines(destination, next, 0, 0, card.silence)
-}
+    // The long gap, the receiver's acknowledgement, and so many ticks after it.
+    fn put_acknowledged(&mut self, after: u16)
+        requires { Room self.old 3 }
+        ensures { Put (acknowledged self.old.card after) self.old self.new }
+    {
+        self.put_lines(0, 0, self.card.end_gap);
+        self.put_lines(0, 1, self.card.acknowledgement);
+        self.put_lines(0, 0, after);
+    }
 
-// The last byte, and the closing.
-pub(crate) fn put_last_byte(destination: &mut [u8], first: usize, card: Card, value: u8) -> usize
-    requires { step_place (first + 25) ≤ length destination.old }
-    ensures { Put destination.old destination.new first result (sent_steps card value []) }
-{
-    let next = put_opening(destination, first, card);
-    let next = put_acknowledged(destination, next, card, card.response);
-    let next = put_value(destination, next, card, value);
-    put_closing(destination, next, card)
-}
+    // The eight bits, least significant first.
+    fn put_bits(&mut self, value: u8)
+        requires { Room self.old 16 }
+        ensures { Put (bit_steps self.old.card 8 value) self.old self.new }
+    {
+        for bit in 0..8u32 {
+            let dat = (value >> bit) % 2;
+            self.put_lines(1, dat, self.card.set_up);
+            self.put_lines(0, dat, self.card.valid);
+        }
+    }
 
-// No byte to send: the sender does not respond to the acknowledgement.
-pub(crate) fn put_no_bytes(destination: &mut [u8], first: usize, card: Card) -> usize
-    requires { step_place (first + 5) ≤ length destination.old }
-    ensures { Put destination.old destination.new first result (empty_steps card) }
-{
-    let next = put_opening(destination, first, card);
-    put_acknowledged(destination, next, card, card.no_response)
+    // The bits, and the wait for the take.
+    fn put_value(&mut self, value: u8)
+        requires { Room self.old 17 }
+        ensures { Put (value_steps self.old.card value) self.old self.new }
+    {
+        self.put_bits(value);
+        self.put_lines(1, 0, self.card.take);
+    }
+
+    // A byte that is not the last.
+    pub(crate) fn put_byte(&mut self, value: u8)
+        requires { Room self.old 20 }
+        ensures { Put (byte_steps self.old.card (plain_gap self.old.card) value) self.old self.new }
+    {
+        self.put_opening();
+        self.put_lines(0, 0, self.card.gap);
+        self.put_value(value);
+    }
+
+    // The last letting go, and the silence after it.
+    fn put_closing(&mut self)
+        requires { Room self.old 3 }
+        ensures { Put (closing self.old.card) self.old self.new }
+    {
+        self.put_opening();
+        self.put_lines(0, 0, self.card.silence);
+    }
+
+    // The last byte, and the closing.
+    pub(crate) fn put_last_byte(&mut self, value: u8)
+        requires { Room self.old 25 }
+        ensures { Put (sent_steps self.old.card value []) self.old self.new }
+    {
+        self.put_opening();
+        self.put_acknowledged(self.card.response);
+        self.put_value(value);
+        self.put_closing();
+    }
+
+    // No byte to send: the sender does not respond to the acknowledgement.
+    pub(crate) fn put_no_bytes(&mut self)
+        requires { Room self.old 5 }
+        ensures { Put (empty_steps self.old.card) self.old self.new }
+    {
+        self.put_opening();
+        self.put_acknowledged(self.card.no_response);
+    }
 }

@@ -1,10 +1,8 @@
 // The steps of a whole string, one byte after another.
 ghost use Rattle.std.specs.Prelude.{◌≤◌, length, ◌≡◌};
-ghost use Rattle.recording.specs.Layout.{file_length};
-ghost use Rattle.writer.specs.{WrittenSteps.written_steps, Written.most_bytes, Written.written_step_count, Put.with_steps};
+ghost use Rattle.writer.specs.{WrittenSteps.written_steps, Written.most_bytes, Written.written_step_count, Put.Room, Put.Put};
 
-use crate::card::Card;
-use crate::steps;
+use crate::steps::StepWriter;
 
 // Document 01: 20n+5 steps.
 const BYTE_STEPS: usize = 20;
@@ -18,29 +16,20 @@ pub(crate) fn step_count(bytes: usize) -> usize
     BYTE_STEPS * bytes + OTHER_STEPS
 }
 
-// The steps after the header.
-pub(crate) fn put_bytes(bytes: &[u8], destination: &mut [u8], card: Card)
-    requires { file_length (written_step_count (length bytes.now)) ≤ length destination.old }
-    ensures { destination.new ≡ with_steps destination.old 0 (written_steps card bytes.now) }
-{
-    if bytes.len() == 0 {
-        steps::put_no_bytes(destination, 0, card);
-        return;
+impl StepWriter<'_> {
+    // The steps after the header.
+    pub(crate) fn put_bytes(&mut self, bytes: &[u8])
+        requires { Room self.old (written_step_count (length bytes.now)) }
+        ensures { Put (written_steps self.old.card bytes.now) self.old self.new }
+    {
+        match bytes.split_last() {
+            None => self.put_no_bytes(),
+            Some((last, others)) => {
+                for byte in others {
+                    self.put_byte(*byte);
+                }
+                self.put_last_byte(*last);
+            }
+        }
     }
-    put_some_bytes(bytes, destination, card);
-}
-
-// One byte or more.
-fn put_some_bytes(bytes: &[u8], destination: &mut [u8], card: Card)
-    requires { (1 ≤ length bytes.now) × (file_length (written_step_count (length bytes.now)) ≤ length destination.old) }
-    ensures { destination.new ≡ with_steps destination.old 0 (written_steps card bytes.now) }
-{
-    let last = bytes.len() - 1;
-    let mut next: usize = 0;
-    let mut index: usize = 0;
-    while index < last {
-        next = steps::put_byte(destination, next, card, bytes[index]);
-        index += 1;
-    }
-    steps::put_last_byte(destination, next, card, bytes[last]);
 }

@@ -1,16 +1,27 @@
 // Recordings that run out: both bases cut after each of their steps, which lasts a tick less than each limit, as long as it
 // and a tick more.
 use crate::case::Case;
-use crate::classes::limits;
+use crate::classes::{Class, limits};
 use crate::entry::Entry;
 use crate::made::draft;
 
-const CASES: u32 = 2 * limits::BASE_STEPS * limits::DURATIONS;
+#[derive(Clone, Copy)]
+pub(crate) struct Cuts(pub Entry);
 
-pub(crate) fn put(entry: Entry, number: u32, file: &mut [u8]) -> Case {
-    let place = number / limits::DURATIONS;
-    let step = place % limits::BASE_STEPS;
-    limits::put_base(entry, draft::room_up_to(file, step), place);
-    draft::set_duration(file, step, limits::duration_of(number));
-    Case::of_file(*b"cuts      ", CASES, entry, file)
+impl Class for Cuts {
+    const NAME: &'static str = "cuts";
+
+    const CASES: u32 = 2 * limits::BASE_STEPS * limits::DURATIONS;
+
+    fn entry(&self) -> Entry {
+        self.0
+    }
+
+    fn put(&self, number: u32, file: &mut [u8]) -> Case {
+        let place = number / limits::DURATIONS;
+        let step = place % limits::BASE_STEPS;
+        limits::put_base(self.0, draft::room_up_to(file, step), place);
+        draft::set_duration(file, step, limits::duration_of(number));
+        Case::of_file(file)
+    }
 }

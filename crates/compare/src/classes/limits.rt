@@ -2,6 +2,7 @@
 // tick more, and the step after it shows each value of the four line bits. So the limit's own tick meets every row of
 // its phase: ATN, lines that stay, SRQ that moves, and lines that lead on.
 use crate::case::Case;
+use crate::classes::Class;
 use crate::entry::Entry;
 use crate::made::draft;
 use crate::made::transfers::Transfer;
@@ -10,8 +11,6 @@ use crate::made::transfers::Transfer;
 const LINES: u32 = 16;
 
 pub(crate) const DURATIONS: u32 = 45;
-
-const CASES: u32 = STEPS * DURATIONS * LINES;
 
 // Of how many steps there are limits: those of both bases, and of the recording written from no bytes.
 pub(crate) const STEPS: u32 = 2 * BASE_STEPS + 5;
@@ -22,10 +21,23 @@ const LIMITS: [u32; 15] = [
     1, 20, 60, 100, 101, 150, 199, 200, 212, 230, 256, 290, 350, 512, 1000,
 ];
 
-pub(crate) fn put(entry: Entry, number: u32, file: &mut [u8]) -> Case {
-    let after = put_limit(entry, number / LINES, file);
-    draft::set_lines(file, after, (number % LINES) as u8);
-    Case::of_file(*b"limits    ", CASES, entry, file)
+#[derive(Clone, Copy)]
+pub(crate) struct Limits(pub Entry);
+
+impl Class for Limits {
+    const NAME: &'static str = "limits";
+
+    const CASES: u32 = STEPS * DURATIONS * LINES;
+
+    fn entry(&self) -> Entry {
+        self.0
+    }
+
+    fn put(&self, number: u32, file: &mut [u8]) -> Case {
+        let after = put_limit(self.0, number / LINES, file);
+        draft::set_lines(file, after, (number % LINES) as u8);
+        Case::of_file(file)
+    }
 }
 
 // Each step with each duration. Gives the step after it.
@@ -38,7 +50,7 @@ pub(crate) fn put_limit(entry: Entry, place: u32, file: &mut [u8]) -> u32 {
 // A tick less than a limit, the limit, and a tick more.
 pub(crate) fn duration_of(index: u32) -> u32 {
     let limit = LIMITS[(index / 3 % 15) as usize];
-    std::num::wrapping_sub_u32(std::num::wrapping_add_u32(limit, index % 3), 1)
+    limit.wrapping_add(index % 3).wrapping_sub(1)
 }
 
 // How many steps a base has, of either entry, with a wait before it and a further step after its end.
@@ -58,15 +70,12 @@ pub(crate) fn put_base(entry: Entry, file: &mut [u8], place: u32) -> u32 {
         draft::add(file, 50, 0);
         return place % BASE_STEPS;
     }
-    writer::write(&[], file);
+    let _ = writer::write(&[], file);
     place % BASE_STEPS
 }
 
 // After the last step comes the first.
 fn step_after(file: &[u8], step: u32) -> u32 {
-    let next = std::num::wrapping_add_u32(step, 1);
-    if next < draft::word_at(file, 0) / draft::UPPER {
-        return next;
-    }
-    0
+    let next = step.wrapping_add(1);
+    if next < draft::steps(file) { next } else { 0 }
 }

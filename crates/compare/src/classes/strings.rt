@@ -1,14 +1,28 @@
 // Written strings of many lengths up to 799, with drawn contents.
 use crate::case::Case;
+use crate::classes::Class;
 use crate::entry::Entry;
 use crate::made::draft::part;
-use crate::made::manner::Manner;
+use crate::made::random::Random;
 
-pub(crate) fn put(number: u32, file: &mut [u8]) -> Case {
-    let mut string = [0u8; 799];
-    fill_drawn(&mut string, Manner::PLAIN.drawn(number));
-    writer::write(part(&string, length_of(number)), file);
-    Case::of_file(*b"strings   ", 128, Entry::Plain, file)
+#[derive(Clone, Copy)]
+pub(crate) struct Strings;
+
+impl Class for Strings {
+    const NAME: &'static str = "strings";
+
+    const CASES: u32 = 128;
+
+    fn entry(&self) -> Entry {
+        Entry::Plain
+    }
+
+    fn put(&self, number: u32, file: &mut [u8]) -> Case {
+        let mut string = [0u8; 799];
+        fill_drawn(&mut string, Random::of_case(number));
+        let _ = writer::write(part(&string, length_of(number)), file);
+        Case::of_file(file)
+    }
 }
 
 // 0 to 63, and every twelfth from 43 to 799.
@@ -19,12 +33,9 @@ fn length_of(number: u32) -> usize {
     799 - (number % 64 * 12) as usize
 }
 
-fn fill_drawn(string: &mut [u8], manner: Manner) {
-    let mut drawn = manner;
-    let mut place: usize = 0;
-    while place < string.len() {
-        drawn = drawn.next();
-        string[place] = (drawn.state >> 56) as u8;
-        place += 1;
+fn fill_drawn(string: &mut [u8], mut random: Random) {
+    for place in string.iter_mut() {
+        random = random.next();
+        *place = random.byte();
     }
 }

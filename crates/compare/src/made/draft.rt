@@ -16,43 +16,47 @@ pub(crate) const ALL_BUT_ATN: u8 = 14;
 
 // Of the header's words the third and the fourth: the total and the length. The first is the version with the step count
 // above it, and the second the first step's place.
-pub(crate) const TOTAL_AT: usize = 8;
+const TOTAL_AT: usize = 8;
 
-pub(crate) const LENGTH_AT: usize = 12;
+const LENGTH_AT: usize = 12;
 
 // The upper half of a word: the step count, and a step's lines.
-pub(crate) const UPPER: u32 = 65_536;
+const UPPER: u32 = 65_536;
 
 pub(crate) fn word_at(file: &[u8], at: usize) -> u32 {
-    if file.len() < 4 {
-        return 0;
-    }
-    if file.len() - 4 < at {
-        return 0;
-    }
-    join(file[at], file[at + 1], file[at + 2], file[at + 3])
+    let word = file.get(at..).and_then(|rest| rest.first_chunk::<4>());
+    word.map_or(0, |bytes| u32::from_le_bytes(*bytes))
 }
 
-fn join(first: u8, second: u8, third: u8, fourth: u8) -> u32 {
-    (first as u32) + (second as u32) * 256 + (third as u32) * 65_536 + (fourth as u32) * 16_777_216
+// What the header says of the steps, the ticks and the bytes.
+pub(crate) fn steps(file: &[u8]) -> u32 {
+    word_at(file, 0) / UPPER
+}
+
+pub(crate) fn total(file: &[u8]) -> u32 {
+    word_at(file, TOTAL_AT)
+}
+
+pub(crate) fn length(file: &[u8]) -> usize {
+    word_at(file, LENGTH_AT) as usize
 }
 
 pub(crate) fn put_word(file: &mut [u8], at: usize, word: u32) {
-    put_byte(file, at, word);
-    put_byte(file, std::num::wrapping_add_usize(at, 1), word / 256);
-    put_byte(file, std::num::wrapping_add_usize(at, 2), word / 65_536);
-    put_byte(file, std::num::wrapping_add_usize(at, 3), word / 16_777_216);
+    if let Some(rest) = file.get_mut(at..)
+        && let Some(bytes) = rest.first_chunk_mut::<4>()
+    {
+        *bytes = word.to_le_bytes();
+    }
 }
 
-fn put_byte(file: &mut [u8], at: usize, byte: u32) {
-    if at < file.len() {
-        file[at] = (byte % 256) as u8;
+fn put_byte(file: &mut [u8], at: usize, byte: u8) {
+    if let Some(place) = file.get_mut(at) {
+        *place = byte;
     }
 }
 
 fn raise(file: &mut [u8], at: usize, by: u32) {
-    let word = word_at(file, at);
-    put_word(file, at, std::num::wrapping_add_u32(word, by));
+    put_word(file, at, word_at(file, at).wrapping_add(by));
 }
 
 // Version 1 with no steps.
@@ -65,14 +69,11 @@ pub(crate) fn begin(file: &mut [u8]) {
 
 // Puts one more step down; none for no ticks, and none where there is no room.
 pub(crate) fn add(file: &mut [u8], duration: u32, lines: u8) {
-    if duration == 0 {
+    let length = length(file);
+    if duration == 0 || file.len() <= length {
         return;
     }
-    let length = word_at(file, LENGTH_AT) as usize;
-    if file.len() <= length {
-        return;
-    }
-    put_word(file, length, duration % UPPER + (lines as u32) * UPPER);
+    put_word(file, length, duration % UPPER + u32::from(lines) * UPPER);
     raise(file, 0, UPPER);
     raise(file, TOTAL_AT, duration);
     raise(file, LENGTH_AT, 4);
@@ -82,33 +83,27 @@ pub(crate) fn add(file: &mut [u8], duration: u32, lines: u8) {
 pub(crate) fn set_duration(file: &mut [u8], step: u32, duration: u32) {
     let place = 16 + 4 * (step as usize);
     let before = word_at(file, place) % UPPER;
-    let more = std::num::wrapping_sub_u32(duration, before);
+    let more = duration.wrapping_sub(before);
     raise(file, place, more);
     raise(file, TOTAL_AT, more);
 }
 
 pub(crate) fn set_lines(file: &mut [u8], step: u32, lines: u8) {
-    put_byte(file, 18 + 4 * (step as usize), lines as u32);
+    put_byte(file, 18 + 4 * (step as usize), lines);
 }
 
 // A step's last byte is 0 and, in a marked step, 1.
-pub(crate) fn set_last(file: &mut [u8], step: u32, last: u32) {
+pub(crate) fn set_last(file: &mut [u8], step: u32, last: u8) {
     put_byte(file, 19 + 4 * (step as usize), last);
 }
 
 // The first bytes of a file.
 pub(crate) fn part(file: &[u8], length: usize) -> &[u8] {
-    if length <= file.len() {
-        return &file[0..length];
-    }
-    file
+    file.get(..length).unwrap_or(file)
 }
 
 // Room for a recording up to this step and no more.
 pub(crate) fn room_up_to(file: &mut [u8], step: u32) -> &mut [u8] {
-    let end = 20 + 4 * (step as usize);
-    if end <= file.len() {
-        return &mut file[0..end];
-    }
-    file
+    let end = file.len().min(20 + 4 * (step as usize));
+    &mut file[..end]
 }

@@ -1,155 +1,120 @@
-// The pieces of a transfer, each put down after what a file has. Each gives the manner for what comes next.
+// The pieces of a transfer, each put down after what a recording has.
 use crate::entry::Entry;
 use crate::made::draft;
 use crate::made::manner::Manner;
+use std::ops::RangeInclusive;
 
-// The writer's time; the least and the most ticks that the two parties' own rules allow, where they give no end some
-// number; and the lines.
-#[derive(Clone, Copy)]
-struct Stretch(u32, u32, u32, u8);
+// The recording, and the manner of what comes next.
+#[derive(Drop)]
+pub(crate) struct Pen<'a> {
+    pub file: &'a mut [u8],
+    pub manner: Manner,
+}
 
-impl Stretch {
-    fn ticks(self, manner: Manner) -> u32 {
-        if manner.state == 0 {
-            return self.0;
+impl Pen<'_> {
+    pub(crate) fn draw(&mut self) {
+        self.manner = self.manner.next();
+    }
+
+    // How many ticks there are so far.
+    pub(crate) fn total(&self) -> u32 {
+        draft::total(self.file)
+    }
+
+    // The writer's time or, where something is drawn, one that the two parties' own rules allow; where they give no end, up
+    // to some number.
+    fn ticks(&self, plain: u32, drawn: RangeInclusive<u32>) -> u32 {
+        match self.manner.random {
+            Some(random) => random.within(drawn),
+            None => plain,
         }
-        manner.within(self.1, self.2)
     }
-}
 
-// Where each piece begins in the list: the start; from the release of CLK to the pull that begins the bits, of a byte
-// and of the last one of data; the end of data, and its silence; the finish of commands, and what is free after it.
-pub(crate) const START: u32 = 0;
+    // So many ticks with the same lines.
+    fn put(&mut self, plain: u32, drawn: RangeInclusive<u32>, lines: u8) {
+        self.draw();
+        let ticks = self.ticks(plain, drawn);
+        self.put_ticks(ticks, lines);
+    }
 
-pub(crate) const BYTE: u32 = 2;
+    // So many ticks with the same lines: where something is drawn, or ATN turns round, in two neighbouring steps.
+    pub(crate) fn put_ticks(&mut self, ticks: u32, lines: u8) {
+        self.draw();
+        let begin = self.total();
+        let first = self.manner.step_end(begin, ticks);
+        draft::add(self.file, first, self.manner.lines(begin, lines));
+        self.draw();
+        let middle = begin.wrapping_add(first);
+        draft::add(self.file, ticks - first, self.manner.lines(middle, lines));
+    }
 
-const LAST_BYTE: u32 = 4;
-
-const END: u32 = 8;
-
-const SILENCE: u32 = 9;
-
-const FINISH: u32 = 10;
-
-const FREE: u32 = 11;
-
-const ALL: u32 = 14;
-
-const STRETCHES: [Stretch; 14] = [
     // The sender pulls CLK from tick 0, and the receiver takes DATA.
-    Stretch(0, 0, 256, draft::CLK),
-    Stretch(200, 1, 400, draft::BOTH),
-    // The sender is ready to send, and both let go.
-    Stretch(50, 1, 400, draft::DATA),
-    Stretch(60, 1, 199, 0),
-    // The same before the last byte, with the acknowledgement.
-    Stretch(50, 1, 400, draft::DATA),
-    Stretch(220, 200, 290, 0),
-    Stretch(80, 60, 150, draft::DATA),
-    Stretch(40, 1, 60, 0),
-    // The last letting go, and nobody pulls anything from it on.
-    Stretch(50, 1, 400, draft::DATA),
-    Stretch(100, 1, 400, 0),
-    // Both still hold their lines, and then anything: where nothing is drawn as many steps and ticks as the end mark and
-    // the end of data have more.
-    Stretch(1, 1, 1, draft::BOTH),
-    Stretch(279, 0, 400, draft::BOTH),
-    Stretch(100, 0, 400, draft::DATA),
-    Stretch(50, 0, 400, draft::CLK),
-];
-
-pub(crate) fn put_stretches(file: &mut [u8], manner: Manner, from: u32, to: u32) -> Manner {
-    let mut next = manner;
-    let mut index = from;
-    while index < to {
-        next = put_stretch(file, next, stretch_at(index));
-        index += 1;
+    pub(crate) fn put_start(&mut self) {
+        self.put(0, 0..=256, draft::CLK);
+        self.put(200, 1..=400, draft::BOTH);
     }
-    next
-}
 
-// Apart, since the table is dear to prove beside anything else.
-fn stretch_at(index: u32) -> Stretch {
-    STRETCHES[(index % 14) as usize]
-}
-
-fn put_stretch(file: &mut [u8], manner: Manner, stretch: Stretch) -> Manner {
-    let drawn = manner.next();
-    put_ticks(file, drawn, stretch.ticks(drawn), stretch.3)
-}
-
-// So many ticks with the same lines: where something is drawn, or ATN turns round, in two neighbouring steps.
-pub(crate) fn put_ticks(file: &mut [u8], manner: Manner, ticks: u32, lines: u8) -> Manner {
-    let drawn = manner.next();
-    let next = drawn.next();
-    let begin = draft::word_at(file, draft::TOTAL_AT);
-    let first = drawn.step_end(begin, ticks);
-    let middle = std::num::wrapping_add_u32(begin, first);
-    let rest = std::num::wrapping_sub_u32(ticks, first);
-    draft::add(file, first, drawn.lines(begin, lines));
-    draft::add(file, rest, next.lines(middle, lines));
-    next
-}
-
-// What leads to a byte's bits, with the end mark or without.
-pub(crate) fn put_lead(file: &mut [u8], manner: Manner, has_end_mark: bool) -> Manner {
-    if has_end_mark {
-        return put_stretches(file, manner, LAST_BYTE, END);
+    // What leads to a byte's bits: the sender is ready to send, and both let go. With the end mark the acknowledgement
+    // comes in between.
+    pub(crate) fn put_lead(&mut self, has_end_mark: bool) {
+        self.put(50, 1..=400, draft::DATA);
+        if has_end_mark {
+            self.put(220, 200..=290, 0);
+            self.put(80, 60..=150, draft::DATA);
+            self.put(40, 1..=60, 0);
+        } else {
+            self.put(60, 1..=199, 0);
+        }
     }
-    put_stretches(file, manner, BYTE, LAST_BYTE)
-}
 
-// Eight bits, least significant first, pulled is one.
-pub(crate) fn put_bits(file: &mut [u8], manner: Manner, value: u8) -> Manner {
-    let mut next = manner;
-    let mut left = value;
-    let mut bit: u32 = 0;
-    while bit < 8 {
-        next = put_bit(file, next, left % 2 * draft::DATA);
-        left = left / 2;
-        bit += 1;
+    // Eight bits, least significant first, pulled is one.
+    pub(crate) fn put_bits(&mut self, value: u8) {
+        for bit in 0..8u32 {
+            self.put_bit((value >> bit) % 2 * draft::DATA);
+        }
     }
-    next
-}
 
-// DATA is free before the last set-up tick, so a drawn set-up shows anything for some ticks first.
-fn put_bit(file: &mut [u8], manner: Manner, data: u8) -> Manner {
-    let drawn = manner.next();
-    let ticks = Stretch(70, 1, 200, draft::CLK).ticks(drawn);
-    let next = drawn.next();
-    let free = next.below(ticks);
-    let rest = std::num::wrapping_sub_u32(ticks, free);
-    let shown = (next.state % 2) as u8 * draft::DATA;
-    let begun = put_ticks(file, next, free, draft::CLK | shown);
-    let ready = put_ticks(file, begun, rest, draft::CLK | data);
-    put_stretch(file, ready, Stretch(60, 20, 200, data))
-}
-
-// What follows the last byte's hold. Gives the finish tick.
-pub(crate) fn put_end(file: &mut [u8], manner: Manner, entry: Entry) -> u32 {
-    match entry {
-        Entry::Plain => put_silence(file, manner),
-        Entry::Command => put_finish(file, manner),
+    // DATA is free before the last set-up tick, so a drawn set-up shows anything for some ticks first.
+    fn put_bit(&mut self, data: u8) {
+        self.draw();
+        let ticks = self.ticks(70, 1..=200);
+        self.draw();
+        let free = self.manner.below(ticks);
+        let shown = self
+            .manner
+            .random
+            .map_or(0, |random| (random.state % 2) as u8 * draft::DATA);
+        self.put_ticks(free, draft::CLK | shown);
+        self.put_ticks(ticks - free, draft::CLK | data);
+        self.put(60, 20..=200, data);
     }
-}
 
-// CLK is released, the receiver lets go, and nobody pulls anything from there on.
-fn put_silence(file: &mut [u8], manner: Manner) -> u32 {
-    let released = put_stretches(file, manner, END, SILENCE);
-    let finish = draft::word_at(file, draft::TOTAL_AT);
-    put_stretches(file, released, SILENCE, FINISH);
-    finish
-}
+    // What follows the last byte's hold. Gives the finish tick.
+    pub(crate) fn put_end(&mut self, entry: Entry) -> u32 {
+        match entry {
+            Entry::Plain => self.put_silence(),
+            Entry::Command => self.put_finish(),
+        }
+    }
 
-// ATN is released, and what CLK and DATA show after that tick is free.
-fn put_finish(file: &mut [u8], manner: Manner) -> u32 {
-    let finish = draft::word_at(file, draft::TOTAL_AT);
-    let released = Manner { more: 0, ..manner };
-    let finished = put_stretches(file, released, FINISH, FREE);
-    let unbound = Manner {
-        free: draft::ALL_BUT_ATN,
-        ..finished
-    };
-    put_stretches(file, unbound, FREE, ALL);
-    finish
+    // The last letting go: CLK is released, the receiver lets go, and nobody pulls anything from there on.
+    fn put_silence(&mut self) -> u32 {
+        self.put(50, 1..=400, draft::DATA);
+        let finish = self.total();
+        self.put(100, 1..=400, 0);
+        finish
+    }
+
+    // ATN is released while both still hold their lines, and what CLK and DATA show after that tick is free: where nothing
+    // is drawn as many steps and ticks as the end mark and the end of data have more.
+    fn put_finish(&mut self) -> u32 {
+        let finish = self.total();
+        self.manner.more = 0;
+        self.put(1, 1..=1, draft::BOTH);
+        self.manner.free = draft::ALL_BUT_ATN;
+        self.put(279, 0..=400, draft::BOTH);
+        self.put(100, 0..=400, draft::DATA);
+        self.put(50, 0..=400, draft::CLK);
+        finish
+    }
 }

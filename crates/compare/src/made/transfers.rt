@@ -1,9 +1,10 @@
 // Whole transfers, and their bytes.
-use crate::case::Required;
+use crate::case::{Due, Sending};
 use crate::entry::Entry;
+use crate::made::draft;
 use crate::made::manner::Manner;
-use crate::made::pieces::put_ticks;
-use crate::made::{draft, pieces};
+use crate::made::pieces::Pen;
+use crate::made::random::Random;
 
 // A byte, and how it is handed over.
 #[derive(Clone, Copy)]
@@ -19,38 +20,33 @@ pub(crate) struct Sent {
 impl Sent {
     // The sender stops at offset 0 to 100, and at 0 where bit 8 is zero. The receiver takes DATA at offset 1 to 1,000,
     // every other time within reach of the sender's stop. CLK is released 100 ticks or more after the take.
-    fn drawn(manner: Manner) -> Sent {
-        let first = manner.next();
+    fn drawn(random: Random) -> Sent {
+        let first = random.next();
         let second = first.next();
         let third = second.next();
-        let value = (first.state >> 56) as u8;
+        let value = first.byte();
         Sent {
             value,
-            let_go: second.within(0, (value / 128) as u32 * 100),
-            take: third.within(1, 101 + (third.state / 8 % 2) as u32 * 899),
-            hold: first.within(100, 400),
+            let_go: second.within(0..=u32::from(value / 128) * 100),
+            take: third.within(1..=101 + (third.state / 8 % 2) as u32 * 899),
+            hold: first.within(100..=400),
         }
     }
 
     // DATA is pulled by the sender before its letting go, and by the receiver from its take on.
-    fn put_handover(self, file: &mut [u8], manner: Manner) -> Manner {
+    fn put_handover(self, pen: &mut Pen) {
         if self.take <= self.let_go {
-            let carried = std::num::wrapping_add_u32(self.take, self.hold);
-            return put_ticks(file, manner, carried, draft::BOTH);
+            return pen.put_ticks(self.take.wrapping_add(self.hold), draft::BOTH);
         }
-        let carried = put_ticks(file, manner, self.let_go, draft::BOTH);
-        let open = put_ticks(file, carried, self.take - self.let_go, draft::CLK);
-        put_ticks(file, open, self.hold, draft::BOTH)
+        pen.put_ticks(self.let_go, draft::BOTH);
+        pen.put_ticks(self.take - self.let_go, draft::CLK);
+        pen.put_ticks(self.hold, draft::BOTH);
     }
 }
 
 // The bytes where nothing is drawn, and their letting go and take: bit 8 zero, and each way to hand over a one: let go at
 // once, carried up to CLK's release, carried and then open.
-const VALUES: [u8; 4] = [0x41, 0xC1, 0x80, 0xF0];
-
-const LETTING_GO: [u32; 4] = [0, 0, 1, 40];
-
-const TAKES: [u32; 4] = [30, 30, 1, 70];
+const BYTES: [(u8, u32, u32); 4] = [(0x41, 0, 30), (0xC1, 0, 30), (0x80, 1, 1), (0xF0, 40, 70)];
 
 #[derive(Clone, Copy)]
 pub(crate) struct Transfer {
@@ -62,16 +58,15 @@ pub(crate) struct Transfer {
     pub first: u32,
     // CLK stays pulled so long after their takes.
     pub hold: u32,
-    // The byte `target`, if there is one, is this.
-    pub target: u32,
-    pub sent: Sent,
+    // The byte with this number, if there is one, is this.
+    pub instead: Option<(u32, Sent)>,
 }
 
-// What was put down so far: the manner for what comes next, and what must come of it.
+// What was put down: the finish tick, and the string, no ledger tick being later than its own.
 #[derive(Clone, Copy)]
-struct Put {
-    manner: Manner,
-    required: Required,
+pub(crate) struct Made {
+    pub finish: u32,
+    pub string: Sending,
 }
 
 impl Transfer {
@@ -86,72 +81,67 @@ impl Transfer {
             count: 4,
             first: 0,
             hold: 200,
-            target: 4,
-            sent: Sent {
-                value: 0,
-                let_go: 0,
-                take: 0,
-                hold: 0,
-            },
+            instead: None,
         }
     }
 
     // The last byte of data has the end mark, and none of commands.
     fn has_end_mark(self, index: u32) -> bool {
-        let entry = self.entry;
-        match entry {
-            Entry::Plain => std::num::wrapping_add_u32(index, 1) == self.count,
+        match self.entry {
+            Entry::Plain => index.wrapping_add(1) == self.count,
             Entry::Command => false,
         }
     }
 
     fn sent_at(self, index: u32, manner: Manner) -> Sent {
-        if self.target == index {
-            return self.sent;
+        if let Some((place, sent)) = self.instead {
+            if place == index {
+                return sent;
+            }
         }
-        if manner.state != 0 {
-            return Sent::drawn(manner);
+        match manner.random {
+            Some(random) => Sent::drawn(random),
+            None => self.plain_at(index),
         }
-        let place = (std::num::wrapping_add_u32(self.first, index) % 4) as usize;
+    }
+
+    fn plain_at(self, index: u32) -> Sent {
+        let (value, let_go, take) = BYTES[(self.first.wrapping_add(index) % 4) as usize];
         Sent {
-            value: VALUES[place],
-            let_go: LETTING_GO[place],
-            take: TAKES[place],
+            value,
+            let_go,
+            take,
             hold: self.hold,
         }
     }
 
-    // Puts it down, and gives what must come of it if it keeps the two parties' own rules: 20 with its finish tick and its
-    // string, no ledger tick being later than its own.
-    pub(crate) fn put(self, file: &mut [u8]) -> Required {
-        let mut put = Put {
-            manner: pieces::put_stretches(file, self.manner, pieces::START, pieces::BYTE),
-            required: Required::NOTHING,
+    // Puts it down. If it keeps the two parties' own rules, 20 must come of it with its finish tick and its string.
+    pub(crate) fn put(self, file: &mut [u8]) -> Made {
+        let mut pen = Pen {
+            file,
+            manner: self.manner,
         };
-        let mut index: u32 = 0;
-        while index < self.count {
-            put = self.put_byte(file, put, index);
-            index += 1;
+        let mut string = Sending::NOTHING;
+        pen.put_start();
+        for index in 0..self.count {
+            string.push(self.put_byte(&mut pen, index));
         }
-        let entry = self.entry;
-        let finish = pieces::put_end(file, put.manner, entry);
-        let mut required = put.required;
-        required.number = 20;
-        required.tick = finish;
-        required.count = self.count;
-        required
+        let finish = pen.put_end(self.entry);
+        Made { finish, string }
     }
 
-    fn put_byte(self, file: &mut [u8], put: Put, index: u32) -> Put {
-        let manner = put.manner;
-        let required = put.required;
-        let sent = self.sent_at(index, manner);
-        let led = pieces::put_lead(file, manner.next().next(), self.has_end_mark(index));
-        let bits = pieces::put_bits(file, led, sent.value);
-        let pull = draft::word_at(file, draft::TOTAL_AT);
-        Put {
-            manner: sent.put_handover(file, bits),
-            required: required.with(index, sent, pull),
+    fn put_byte(self, pen: &mut Pen, index: u32) -> Due {
+        let sent = self.sent_at(index, pen.manner);
+        pen.draw();
+        pen.draw();
+        pen.put_lead(self.has_end_mark(index));
+        pen.put_bits(sent.value);
+        let pull = pen.total();
+        sent.put_handover(pen);
+        Due {
+            value: sent.value,
+            let_go: pull.wrapping_add(sent.let_go),
+            take: pull.wrapping_add(sent.take),
         }
     }
 }

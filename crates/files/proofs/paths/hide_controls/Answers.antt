@@ -1,11 +1,7 @@
-use Rattle.files.proofs.MapLaws.{mapped_first, mapped_next, mapped_all}
+use Rattle.std.proofs.Common.{rules}
+use Rattle.std.proofs.lemmas.List.Edits.{map_over_more}
+use Rattle.files.specs.Printable.{printable}
 use Rattle.files.proofs.paths.hide_controls.Goals as goal
 
-pub loop-place-init : goal.loop-place-init
-loop-place-init c = mapped_first _ _
-
-pub loop-place-preserved : goal.loop-place-preserved
-loop-place-preserved c = mapped_next _ _ _ _ _ c.loop-place.invariant c.loop-place-test.true c.printable.ensures
-
-pub returns : goal.returns
-returns c = mapped_all _ _ _ _ c.loop-place.invariant c.loop-place-test.false
+pub loop-byte-preserved : goal.loop-byte-preserved
+loop-byte-preserved c = search (rules, map_over_more printable)

@@ -2,8 +2,5 @@
 use Rattle.judge.proofs.HoldingLaws.{Back}
 use Rattle.judge.proofs.answers.step_holding.Given as goal
 
-abbrev pub invariant-loop-begin : goal.invariant-loop-begin
-invariant-loop-begin l = Back l.file l.steps l.tick l.index l.begin
-
-abbrev pub decreases-loop-begin : goal.decreases-loop-begin
-decreases-loop-begin l = l.index
+abbrev pub invariant-loop-index : goal.invariant-loop-index
+invariant-loop-index l = Back l.recording.file.now l.recording.steps l.tick l.index l.begin

@@ -7,9 +7,9 @@ use Rattle.judge.proofs.reading.read.Given as goal
 
 abbrev pub invariant-loop-left : goal.invariant-loop-left
 invariant-loop-left l =
-    let rest = ticks_from l.file (l.index + 1) (l.steps - (l.index + 1)) in
+    let rest = ticks_from l.recording.file.now (l.index + 1) (l.recording.steps - (l.index + 1)) in
     (l.left ≤ longest_duration)
-    × (l.index < l.steps)
+    × (l.index < l.recording.steps)
     × Keeps l.limits (comes_to l.limits l.initial.state l.initial.bytes l.initial.ledger (left_of l.tick l.initial.left ++ rest))
     l.initial.bytes l.initial.ledger (longest_duration * l.index + (longest_duration - l.left)) (left_of l.tick l.left ++ rest)
     l.state l.bytes l.ledger
@@ -19,10 +19,7 @@ decreases-loop-left l = l.left
 
 abbrev pub invariant-steps : goal.invariant-steps
 invariant-steps l =
-    (l.index ≤ l.steps)
-    × Keeps l.limits (comes_to l.limits l.initial.state l.initial.bytes l.initial.ledger (ticks_from l.file 0 l.steps))
-    l.initial.bytes l.initial.ledger (longest_duration * l.index) (ticks_from l.file l.index (l.steps - l.index))
+    let r = l.recording in
+    Keeps l.limits (comes_to l.limits l.initial.state l.initial.bytes l.initial.ledger (ticks_from r.file.now 0 r.steps))
+    l.initial.bytes l.initial.ledger (longest_duration * l.index) (ticks_from r.file.now l.index (r.steps - l.index))
     l.state l.bytes l.ledger
-
-abbrev pub decreases-steps : goal.decreases-steps
-decreases-steps l = l.steps - l.index

@@ -5,13 +5,13 @@ use Rattle.recording.proofs.FormLaws.{steps_start, step_passes, step_refuses, st
 use Rattle.recording.proofs.form.check_steps.Goals as goal
 
 pub loop-index-init : goal.loop-index-init
-loop-index-init c = record { within = omega arith; fits = omega arith; decides = steps_start _ _ }
+loop-index-init c = record { fits = omega arith; decides = steps_start _ _ }
 
-pub returns-in-Failed : goal.returns-in-Failed
-returns-in-Failed c =
+pub returns-in-Err : goal.returns-in-Err
+returns-in-Err c =
     let s = c.read-step in
     let t = c.test in
-    let refused = step_refuses _ _ _ _ s.result t.result s.ensures t.ensures c.loop-index-test.true _ c.in-Failed.is in
+    let refused = step_refuses _ _ _ _ s.result t.result s.ensures t.ensures c.loop-index-test.true _ c.in-Err.is in
     sym (c.loop-index.invariant.decides ∙ refused)
 
 pub loop-index-preserved : goal.loop-index-preserved
@@ -19,11 +19,12 @@ loop-index-preserved c =
     let s = c.read-step in
     let t = c.test in
     let passed = step_passes _ _ _ _ s.result t.result s.ensures t.ensures c.loop-index-test.true c.in_default.is in
-    record { within = search rules; fits = search rules; decides = c.loop-index.invariant.decides ∙ passed }
+    record { fits = search rules; decides = c.loop-index.invariant.decides ∙ passed }
 
 pub returns-then-header-sum : goal.returns-then-header-sum
 returns-then-header-sum c =
-    sym (c.loop-index.invariant.decides ∙ steps_done _ _ _ _ c.loop-index-test.false ∙ rw (ne_eqb _ _ c.if-header-sum.true))
+    rw c.into.ensures
+    (sym (c.loop-index.invariant.decides ∙ steps_done _ _ _ _ c.loop-index-test.false ∙ rw (ne_eqb _ _ c.if-header-sum.true)))
 
 pub returns : goal.returns
 returns c =

@@ -1,19 +1,17 @@
-use mathlib.Core.Path.{sym}
-use Rattle.tray_file.proofs.NumberLaws.{no_text, digits_none, digits_next, digits_other, digits_all}
+use borrow.Author.Tests.{tests}
+use mathlib.Core.Path.{◌∙◌}
+use Rattle.std.proofs.Common.{rules}
+use Rattle.std.proofs.lemmas.Iterator.{YieldsList-from_slice}
+use Rattle.std.proofs.lemmas.Iterator.Search.{all_from_yields_List}
+use Rattle.tray_file.proofs.NumberLaws.{numbered, no_text}
+use Rattle.std.specs.Char.{is_ascii_digit}
 use Rattle.tray_file.proofs.numbers.is_number.Goals as goal
 
-pub returns-then-text-eq0 : goal.returns-then-text-eq0
-returns-then-text-eq0 c = sym (no_text _ c.if-text-eq0.true)
+pub returns-then-not-is_empty : goal.returns-then-not-is_empty
+returns-then-not-is_empty c =
+    all_from_yields_List is_ascii_digit _ _ c.all.result c.all.ensures.ran (YieldsList-from_slice c.args.text.now cc)
+    (λ x b q k. search (rules, tests))
+    ∙ numbered c.args.text.now (search (rules, tests))
 
-pub loop-place-init : goal.loop-place-init
-loop-place-init c = digits_none _ c.if-text-eq0.false
-
-pub returns-then-not-is_digit : goal.returns-then-not-is_digit
-returns-then-not-is_digit c =
-    sym (digits_other _ _ c.loop-place.invariant c.loop-place-test.true (sym c.if-not-is_digit.ensures))
-
-pub loop-place-preserved : goal.loop-place-preserved
-loop-place-preserved c = digits_next _ _ c.loop-place.invariant c.loop-place-test.true (sym c.if-not-is_digit.ensures)
-
-pub returns : goal.returns
-returns c = sym (digits_all _ _ c.loop-place.invariant c.loop-place-test.false)
+pub returns-else-not-is_empty : goal.returns-else-not-is_empty
+returns-else-not-is_empty c = search (rules, tests, no_text)

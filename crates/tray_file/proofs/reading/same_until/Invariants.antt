@@ -1,12 +1,8 @@
-use Rattle.std.specs.Prelude.{ℕ, ◌-◌, ◌<◌, ◌≤◌, length, get_or, ◌≡◌}
+use Rattle.std.specs.Prelude.{ℕ, ◌<◌, ◌≤◌, length, get_or, ◌≡◌}
 use Rattle.tray_file.proofs.reading.same_until.Given as goal
 
 abbrev pub invariant-loop-place : goal.invariant-loop-place
 invariant-loop-place l = record {
   in_file : l.place ≤ length l.file;
-  in_text : l.place ≤ 493;
   same : (k : ℕ) → k < l.place → get_or l.file k 0 ≡ get_or l.text k 0;
 }
-
-abbrev pub decreases-loop-place : goal.decreases-loop-place
-decreases-loop-place l = 493 - l.place

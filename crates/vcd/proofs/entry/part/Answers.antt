@@ -1,24 +1,19 @@
--- Case by case.
-use Rattle.std.proofs.Common.{sym, ap, ◌∙◌, arith}
-use Rattle.recording.proofs.GoodFormLaws.{good_form}
-use Rattle.vcd.specs.Dumped.{leaves}
+-- A refusal is what the form's test gives; otherwise the dump is put down through a window.
+use Rattle.std.proofs.Common.{arith, rules}
+use Rattle.std.proofs.lemmas.Result.{err_from_is_err_and}
 use Rattle.vcd.proofs.DumpedLaws.{is_refused, count_fits, piece_put}
 use Rattle.vcd.proofs.entry.part.Goals as goal
 
-pub put_dump-window-requires : goal.put_dump-window-requires
-put_dump-window-requires c = (good_form _ _).0 (sym c.check_form-form.ensures ∙ c.in-Good.is)
+pub returns-in_err-recording : goal.returns-in_err-recording
+returns-in_err-recording c =
+    let p = err_from_is_err_and c.from_residual.result c.from_residual.ensures.1 in
+    rw (p.1, p.2) (is_refused _ _ _ _ c.in_err-recording.ensures)
 
-pub overflow_cast-window : goal.overflow_cast-window
-overflow_cast-window c =
-    let good = sym c.check_form-form.ensures ∙ c.in-Good.is in
-    omega (arith, count_fits _ _ _ _ good c.at.ensures c.put_dump-window.ensures)
+pub overflow_cast-result : goal.overflow_cast-result
+overflow_cast-result c =
+    omega (arith, count_fits _ _ _ _ c.in_ok-recording.recording.good c.at-window.ensures c.put_dump.ensures)
 
-pub returns-in-Refused : goal.returns-in-Refused
-returns-in-Refused c =
-    let bad = sym c.check_form-form.ensures ∙ c.in-Refused.is in
-    ap (λ r. leaves r c.args.destination.now) c.refused.ensures ∙ sym (is_refused _ _ _ _ _ bad)
-
-pub returns-in-Good : goal.returns-in-Good
-returns-in-Good c =
-    let good = sym c.check_form-form.ensures ∙ c.in-Good.is in
-    piece_put _ _ _ _ good c.at.ensures c.put_dump-window.ensures _ c.accepted.ensures
+pub returns : goal.returns
+returns c =
+    rw (← c.in_ok-recording.ensures.0)
+    (piece_put _ _ _ _ c.in_ok-recording.recording.good c.at-window.ensures c.put_dump.ensures (search rules))

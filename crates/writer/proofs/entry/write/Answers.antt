@@ -9,20 +9,20 @@ pub returns-then-bytes-gt-MOST_BYTES : goal.returns-then-bytes-gt-MOST_BYTES
 returns-then-bytes-gt-MOST_BYTES c =
     let d = c.args.destination.now in
     let many = c.if-bytes-gt-MOST_BYTES.true in
-    refuses _ d _ TooManyBytes (λ w. omega (arith, w.few, many)) (ap (λ r. leaves r d) c.refused.ensures) (too_many _ _ d (search rules))
+    refuses _ d _ TooManyBytes (λ w. omega (arith, w.few, many)) (rw c.into.ensures) (too_many _ _ d (search rules))
 
 pub returns-then-destination-length : goal.returns-then-destination-length
 returns-then-destination-length c =
     let d = c.args.destination.now in
     let short = c.if-destination-length.true in
     refuses _ d _ ShortDestination (λ w. omega (arith, w.room, short, c.written_length-length.ensures))
-    (ap (λ r. leaves r d) c.refused-then-destination-length.ensures) (no_room _ _ d (search rules) (search rules))
+    (rw c.into-then-destination-length.ensures) (no_room _ _ d (search rules) (search rules))
 
 pub returns : goal.returns
 returns c =
     let bytes = c.args.bytes.now in
     let d = c.args.destination.now in
-    let same_answer = c.accepted.ensures ∙ ap accepted c.written_length-length.ensures in
+    let same_answer = ap accepted c.written_length-length.ensures in
     let same_bytes = c.put_recording.ensures ∙ ap (λ card. recording_of card bytes over d) c.standard.ensures in
     puts_down bytes d _ (λ i. (c.type_inv.bytes i).fits) (search rules) (ap₂ leaves same_answer same_bytes)
     (all_well _ bytes d (search rules) (search rules))

@@ -7,4 +7,5 @@ pub returns : goal.returns
 unfolding step_bytes
 returns c =
     let s = c.args.self in
-    rw c.put_u16.ensures (two_more c.args.destination.now (step_place c.args.index) (two_bytes s.duration) s.lines s.last)
+    rw (c.put.ensures, c.to_le_bytes.ensures)
+    (two_more c.args.destination.now (step_place c.args.index) (two_bytes s.duration) s.lines s.last)

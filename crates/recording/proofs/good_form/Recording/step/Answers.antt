@@ -1,0 +1,7 @@
+-- A recording of good form has all its steps.
+use Rattle.std.proofs.Common.{arith}
+use Rattle.recording.proofs.GoodFormLaws.{good_form}
+use Rattle.recording.proofs.good_form.Recording.step.Goals as goal
+
+pub read-requires : goal.read-requires
+read-requires c = let good = (good_form _ _).0 c.args.self.good in omega (arith, good.whole, c.requires)
