@@ -1,6 +1,6 @@
 -- What an entry answers where it gives no verdict, and what it leaves in lent memory.
-use Rattle.std.specs.Prelude.{ℕ, Result, Ok, Err, List, ◌++◌, length, take, drop}
-use Rattle.answer.specs.{Types.Answer, Types.Refusal, Types.Refused, Numbers.refusal_number}
+use Rattle.std.specs.Prelude.{ℕ, Result, Ok, Err, List, ◌++◌, length, take, drop, codes, decimal}
+use Rattle.answer.specs.{Types.Answer, Types.Refusal, Types.Refused, Numbers.refusal_number, Names.word_of}
 
 -- "Every refusal has tick 0 and count 0, its step is the offending one for 6 and 7 and otherwise 0."
 abbrev pub refused : Refusal → (step : ℕ) → Answer
@@ -14,6 +14,12 @@ accepted count = record { number = 0; tick = 0; step = 0; count = count }
 abbrev pub answered : Result ℕ Refused → Answer
 answered (Ok count) = accepted count
 answered (Err r) = refused r.refusal r.step
+
+-- What is printed of an answer: its four numbers, and the number's word.
+abbrev pub answer_text : Answer → List ℕ
+answer_text a =
+    decimal a.number ++ codes " " ++ decimal a.tick ++ codes " " ++ decimal a.step ++ codes " " ++ decimal a.count ++ codes " "
+    ++ word_of a.number
 
 -- Lent places that begin with these values: "all further places keep what they held". There are always places enough: by the room law
 -- for the judge, by refusal 11 for the writer; of a dump only so much is put down as there are places.

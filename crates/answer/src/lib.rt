@@ -1,8 +1,8 @@
 // What an entry answers: its number, by name, and what goes with it.
 #![tactic(auto)]
 
-ghost use Rattle.std.specs.Prelude.{◌≡◌};
-ghost use Rattle.answer.specs.Answers.{refused, accepted, answered};
+ghost use Rattle.std.specs.Prelude.{◌≡◌, Some};
+ghost use Rattle.answer.specs.Answers.{refused, accepted, answered, answer_text};
 
 mod names;
 mod refusal;
@@ -11,6 +11,7 @@ mod verdict;
 pub use crate::names::name_of;
 pub use crate::refusal::{Refusal, Refused};
 pub use crate::verdict::{Fault, Verdict};
+use std::fmt;
 
 // Document 01: "An answer is a number, a tick, a step and a count." A number and no enum: the four cross to C as they are, and what the
 // judge promises (`JudgePromise`) speaks of them.
@@ -63,5 +64,19 @@ impl From<Refused> for Answer {
 
     fn from(refused: Refused) -> Answer {
         Answer::refused(refused.refusal, refused.step)
+    }
+}
+
+// As `NUMBER TICK STEP COUNT NAME`.
+impl fmt::Display for Answer {
+    ghost output = { λ answer. Some (answer_text answer) };
+
+    fn fmt<W: fmt::Write>(&self, f: &mut fmt::Formatter<W>) -> fmt::Result {
+        let name = name_of(u32::from(self.number));
+        write!(
+            f,
+            "{} {} {} {} {name}",
+            self.number, self.tick, self.step, self.count
+        )
     }
 }

@@ -2,7 +2,8 @@
 ghost use Rattle.std.specs.Prelude.{◌<◌, length, ◌≡◌};
 ghost use Rattle.answer.specs.Names.{word_of, name_room};
 
-// The word that the programs print for this number. No number but 20 has a pass's. Where it crosses to C a zero has room after it.
+// The word that the programs print for this number. No number but 20 has that of a pass. By number, since C
+// asks by one and an answer has one. Where the word crosses to C a zero has room after it.
 #[tactic(auto, using(crate::proofs::NameLaws::with_row, crate::proofs::NameLaws::with_none))]
 pub fn name_of(number: u32) -> &'static str
     ensures named { result.now ≡ word_of number }

@@ -6,7 +6,8 @@ ghost use Rattle.command.specs.Table.{class_by};
 use crate::class::Class;
 
 // A letter for each byte: a row has the sixteen bytes that begin with the same hexadecimal digit, the first row 0x00 to 0x0F.
-// Letters and no classes: sixteen classes by name take more than a line, and the ranges are no longer seen.
+// A table, as the user asked for (docs/DECISIONS.md, 51), and one of letters: sixteen classes by name take more than a line, and the ranges
+// are no longer seen.
 const LETTERS: [u8; 256] = *b"\
     ................\
     ................\

@@ -1,5 +1,5 @@
 // Which entry a recording is made for, and which it is handed to: for data or for commands. It travels as a value, and is
-// this crate's own, since none that the crate stands on shows one.
+// this crate's own, as its methods are: a type of another crate takes none.
 use crate::made::draft;
 
 #[derive(Clone, Copy)]

@@ -1,34 +1,31 @@
 // What is counted.
-ghost use Rattle.std.specs.Prelude.{◌<◌};
-
 use crate::entry::Entry;
 
-// The recordings with each number as the answer, for data and then for commands, and the differences.
+// No answer's number is as large.
+const NUMBERS: usize = 64;
+
+// The recordings of data and of commands with each number as the answer, and the differences.
 #[derive(Clone, Copy)]
 pub(crate) struct Tally {
-    numbers: [u32; 128],
+    data: [u32; NUMBERS],
+    commands: [u32; NUMBERS],
     pub differences: u32,
 }
 
 impl Tally {
     pub(crate) const NONE: Tally = Tally {
-        numbers: [0; 128],
+        data: [0; NUMBERS],
+        commands: [0; NUMBERS],
         differences: 0,
     };
 
-    fn place(entry: Entry, number: u32) -> usize
-        ensures { result < 128 }
-    {
-        let place = (number % 64) as usize;
-        match entry {
-            Entry::Plain => place,
-            Entry::Command => 64 + place,
-        }
-    }
-
     // How many recordings had this number by this entry.
     pub(crate) fn of(&self, entry: Entry, number: u8) -> u32 {
-        self.numbers[Tally::place(entry, u32::from(number))]
+        let place = usize::from(number) % NUMBERS;
+        match entry {
+            Entry::Plain => self.data[place],
+            Entry::Command => self.commands[place],
+        }
     }
 
     // Whether any recording had it.
@@ -37,8 +34,11 @@ impl Tally {
     }
 
     pub(crate) fn count(&mut self, entry: Entry, number: u32) {
-        let place = Tally::place(entry, number);
-        self.numbers[place] = self.numbers[place].wrapping_add(1);
+        let place = number as usize % NUMBERS;
+        match entry {
+            Entry::Plain => self.data[place] = self.data[place].wrapping_add(1),
+            Entry::Command => self.commands[place] = self.commands[place].wrapping_add(1),
+        }
     }
 
     pub(crate) fn differ(&mut self) {

@@ -5,11 +5,7 @@ use std::io::Print;
 
 // Prints `NUMBER TICK STEP COUNT NAME FILE`.
 pub fn print_answer<P: Print>(to: &P, answer: Answer, file: &[u8]) -> io::Result<()> {
-    print!(to;
-        "{} {} {} {} ",
-        answer.number, answer.tick, answer.step, answer.count
-    )?;
-    print_name(to, u32::from(answer.number))?;
+    print!(to; "{answer}")?;
     print_file(to, file)
 }
 

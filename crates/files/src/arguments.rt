@@ -1,7 +1,7 @@
 // A program's arguments.
 ghost use Rattle.std.specs.Prelude.{◌≤◌, length, IfOk};
 
-use crate::reasons::{fail, missing, too_long};
+use crate::reasons::{Found, fail};
 use std::env::FillError;
 use std::io;
 use std::io::Print;
@@ -13,8 +13,8 @@ pub fn argument<'a, R: Env>(rt: &R, place: usize, room: &'a mut [u8]) -> io::Res
 {
     match rt.arg(place, room) {
         Ok(given) => Ok(&mut room[..given]),
-        Err(FillError::NotPresent) => Err(missing()),
-        Err(FillError::TooLong) => Err(too_long()),
+        Err(FillError::NotPresent) => Err(Found::Missing.into()),
+        Err(FillError::TooLong) => Err(Found::TooLong.into()),
     }
 }
 

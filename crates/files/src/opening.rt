@@ -1,7 +1,7 @@
 // A file that an argument names, opened.
 ghost use Rattle.std.specs.Prelude.{◌≤◌, length, IfOk};
 
-use crate::reasons::no_text;
+use crate::reasons::Found;
 use std::fs::OpenOptions;
 use std::rt::{Env, Files};
 use std::{io, str};
@@ -33,7 +33,7 @@ fn open_by<R: Env + Files>(
     let mut link = [0u8; 4096];
     match str::from_utf8(link_to(rt, place, &mut link)?) {
         Ok(text) => how.open(rt, text),
-        Err(_) => Err(no_text()),
+        Err(_) => Err(Found::NoText.into()),
     }
 }
 
@@ -47,6 +47,6 @@ fn link_to<'a, R: Env>(rt: &R, place: usize, room: &'a mut [u8]) -> io::Result<&
             room[folder + 1] = b'0' + place as u8;
             Ok(&room[..folder + 2])
         }
-        _ => Err(no_text()),
+        _ => Err(Found::NoText.into()),
     }
 }

@@ -4,24 +4,21 @@ ghost use Rattle.std.specs.Prelude.{◌≤◌, length};
 use std::io;
 use std::io::{Cursor, Print, Write};
 
-// The system's numbers of the errors that are found here and not by the system: an argument that is not there; one that is longer than its
-// room; a file's name that is no text in UTF-8.
-const INVALID_ARGUMENT: i32 = 22;
-
-const NAME_TOO_LONG: i32 = 36;
-
-const NO_CHARACTERS: i32 = 84;
-
-pub fn missing() -> io::Error {
-    io::Error::from_raw_os_error(INVALID_ARGUMENT)
+// What is found to be wrong here and not by the system, each with the system's number for it.
+#[derive(Clone, Copy)]
+pub(crate) enum Found {
+    // An argument is not there.
+    Missing = 22,
+    // An argument is longer than its room.
+    TooLong = 36,
+    // A file's name is no text in UTF-8.
+    NoText = 84,
 }
 
-pub fn too_long() -> io::Error {
-    io::Error::from_raw_os_error(NAME_TOO_LONG)
-}
-
-pub fn no_text() -> io::Error {
-    io::Error::from_raw_os_error(NO_CHARACTERS)
+impl From<Found> for io::Error {
+    fn from(found: Found) -> io::Error {
+        io::Error::from_raw_os_error(found as i32)
+    }
 }
 
 // Longer than any reason.
@@ -39,7 +36,8 @@ pub fn fail<E: Print>(errors: &E, what: &[u8], error: io::Error) {
     let _ = errors.write_all(b"\n");
 }
 
-// How long the reason is without what is printed after it of the system's errors, ` (os error 2)`: no reason has a bracket in it.
+// How long the reason is without what is printed after it of the system's errors, ` (os error 2)`: no reason has a bracket in it, nor a
+// zero, which is what the rest of its room has.
 fn reason_length(text: &[u8]) -> usize
     ensures { result ≤ length text.now }
 {

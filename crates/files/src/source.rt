@@ -5,7 +5,7 @@ ghost use Rattle.std.specs.Result.{result_ok};
 use crate::input::read_input;
 use crate::opening::open;
 use crate::paths::hide_controls;
-use crate::reasons::{fail, too_long};
+use crate::reasons::{Found, fail};
 use std::env::FillError;
 use std::io;
 use std::io::{Input, Print};
@@ -43,7 +43,7 @@ pub fn read_source<'a, R: Env + Files + Input, E: Print>(
         }
         Err(FillError::TooLong) => {
             hide_controls(name);
-            told(errors, name, Err(too_long()))
+            told(errors, name, Err(Found::TooLong.into()))
         }
     }
 }

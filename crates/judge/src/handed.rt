@@ -4,7 +4,8 @@ ghost use Rattle.judge.specs.Reading.{Storable, with_byte, with_ticks};
 
 use reader::State;
 
-// Stores the byte and its two ticks, if the tick from `before` to `after` handed a byte over. Two buffers, as C lends them.
+// Stores the byte and its two ticks, if the tick from `before` to `after` handed a byte over. Two buffers, as C lends them; by
+// the counts, as `with_byte` says.
 pub(crate) fn store(bytes: &mut [u8], ledger: &mut [u32], before: State, after: State)
     requires { Storable bytes.old ledger.old before after }
     ensures { (bytes.new ≡ with_byte bytes.old before after)

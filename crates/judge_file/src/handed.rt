@@ -6,7 +6,7 @@ use transfer::Entry;
 // A line of the bytes, one of their ticks and, of commands, one of their classes, or nothing where no byte was handed over.
 pub fn print_handed<P: Print>(
     to: &P,
-    transfer: Entry,
+    entry: Entry,
     bytes: &[u8],
     ledger: &[u32],
 ) -> io::Result<()> {
@@ -15,7 +15,7 @@ pub fn print_handed<P: Print>(
     }
     print_line(to, "bytes", bytes, |byte| print!(to; " {byte:02x}"))?;
     print_line(to, "ledger", ledger, |tick| print!(to; " {tick}"))?;
-    match transfer {
+    match entry {
         Entry::Plain => Ok(()),
         Entry::Command => print_line(to, "classes", bytes, |byte| print_class(to, *byte)),
     }

@@ -39,33 +39,33 @@ fn judge_arguments<R: Env + Files + Input + Print, E: Print>(rt: &R, errors: &E)
 fn judge_source<R: Env + Files + Input + Print, E: Print>(
     rt: &R,
     errors: &E,
-    transfer: Entry,
+    entry: Entry,
 ) -> io::Result<()> {
     let mut name = [0u8; 4096];
     let mut room = [0u8; 65536];
     let source = read_source(rt, errors, 2, &mut name, &mut room);
     match source.file {
-        Some(file) => print_judged(rt, transfer, file, source.name)?,
+        Some(file) => print_judged(rt, entry, file, source.name)?,
         None => print_failure(rt, b"unreadable", source.name)?,
     }
     rt.print("end\n")
 }
 
-fn print_judged<P: Print>(to: &P, transfer: Entry, file: &[u8], name: &[u8]) -> io::Result<()> {
+fn print_judged<P: Print>(to: &P, entry: Entry, file: &[u8], name: &[u8]) -> io::Result<()> {
     let mut bytes = [0u8; 1000];
     let mut ledger = [0u32; 2000];
-    let answer = judge_by(transfer, file, &mut bytes, &mut ledger);
+    let answer = judge_by(entry, file, &mut bytes, &mut ledger);
     print_answer(to, answer, name)?;
     let count = answer.count as usize;
     // the judge counts no more than the buffers hold
     match (bytes.get(..count), ledger.get(..2 * count)) {
-        (Some(bytes), Some(ledger)) => print_handed(to, transfer, bytes, ledger),
+        (Some(bytes), Some(ledger)) => print_handed(to, entry, bytes, ledger),
         _ => Err(ErrorKind::InvalidData.into()),
     }
 }
 
-fn judge_by(transfer: Entry, file: &[u8], bytes: &mut [u8], ledger: &mut [u32]) -> Answer {
-    match transfer {
+fn judge_by(entry: Entry, file: &[u8], bytes: &mut [u8], ledger: &mut [u32]) -> Answer {
+    match entry {
         Entry::Plain => judge::judge(file, bytes, ledger),
         Entry::Command => judge::judge_command(file, bytes, ledger),
     }

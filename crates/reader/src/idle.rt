@@ -24,9 +24,6 @@ impl State {
         let now = self.tick;
         match self.phase {
             Phase::Start => ticks_below(limits.presence, 0, now, most),
-            Phase::FirstHold => most,
-            Phase::Hold(..) => most,
-            Phase::ReadyToSend(..) => most,
             Phase::ReadyForData(_, since) => ticks_below(limits.end_mark_latest, since, now, most),
             Phase::Acknowledgement(_, since, _) => {
                 ticks_below(limits.acknowledge_most, since, now, most)
@@ -37,10 +34,9 @@ impl State {
             Phase::SetUp(_, _, _, since, _) => ticks_below(limits.set_up_most, since, now, most),
             Phase::Valid(_, _, _, since, _) => ticks_below(limits.valid_most, since, now, most),
             Phase::Open(_, _, since, _) => ticks_below(limits.take_latest, since, now, most),
-            Phase::Carried(..) => most,
-            Phase::End(..) => most,
-            Phase::Finished(..) => most,
-            Phase::Decided(..) => most,
+            Phase::FirstHold | Phase::Hold(..) | Phase::ReadyToSend(..) | Phase::Carried(..) =>
+                most,
+            Phase::End(..) | Phase::Finished(..) | Phase::Decided(..) => most,
         }
     }
 

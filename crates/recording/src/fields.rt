@@ -3,7 +3,8 @@ ghost use Rattle.std.specs.Prelude.{◌+◌, ◌≤◌, length, ◌≡◌};
 ghost use Rattle.std.proofs.lemmas.List.Edits.{sets};
 ghost use Rattle.recording.specs.Layout.{u16_at, u32_at};
 
-// One for each width: `from_le_bytes` is a method of each number type and of no trait, so one generic function can't call both.
+// Two, one for each width: a generic one could only give the bytes, and each call would say `u16::from_le_bytes(fields::bytes_at(file, 0))`
+// for `fields::u16_at(file, 0)`.
 pub(crate) fn u16_at(file: &[u8], at: usize) -> u16
     requires { at + 2 ≤ length file.now }
     ensures { result ≡ u16_at file.now at }

@@ -86,10 +86,7 @@ impl Header {
             return Err(Refusal::WrongOffset);
         }
         let length = Header::SIZE + Step::SIZE * (self.steps as usize);
-        if self.length as usize != length {
-            return Err(Refusal::WrongLength);
-        }
-        if size != length {
+        if self.length as usize != length || size != length {
             return Err(Refusal::WrongLength);
         }
         Ok(())

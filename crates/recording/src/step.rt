@@ -61,10 +61,7 @@ impl Step {
         if self.duration == 0 {
             return Err(Refusal::ZeroDuration);
         }
-        if Step::LINE_BOUND <= self.lines {
-            return Err(Refusal::StrayBits);
-        }
-        if Step::MARK < self.last {
+        if Step::LINE_BOUND <= self.lines || Step::MARK < self.last {
             return Err(Refusal::StrayBits);
         }
         Ok(())

@@ -16,7 +16,8 @@ pub const OFFSET: u32 = 16;
 // #103: "The recorder now marks a step before which ticks were lost: its last byte is 1." The last byte of others is 0.
 pub const MARKED: u8 = 1;
 
-// Two readers and not one over the length: `from_le_bytes` is a method of each number type, and in no trait.
+// Two readers and not one over the length, which could only give the bytes: each call would then name the number type and its
+// `from_le_bytes`.
 fn two_bytes(file: &[u8], at: usize) -> u32
     requires { at + 2 ≤ length file.now }
     ensures { (result ≡ two_bytes file.now at) × (result < 65536) }

@@ -33,7 +33,8 @@ mod trying;
 use entry::Entry;
 use refusals::Refused;
 
-// "An answer is a number, a tick, a step and a count." The number is no enum here, since both entries hand it out as it is.
+// "An answer is a number, a tick, a step and a count." A number and no enum: `Answered` says
+// of both entries which it is among, and whoever compares judges holds it against another's number.
 #[derive(Clone, Copy, PartialEq, Eq)]
 pub struct Finding {
     pub number: u32,
@@ -68,7 +69,7 @@ pub fn judge_by_steps(file: &[u8], bytes: &mut [u8], ledger: &mut [u32]) -> Find
 }
 
 // The same of a command recording, document 02's #101, with its own verdicts; complete only if its last step leaves ATN
-// released.
+// released. An entry of its own, as the paper has two.
 pub fn judge_command_by_steps(file: &[u8], bytes: &mut [u8], ledger: &mut [u32]) -> Finding
     ensures { Answered Entry.Command result file.now bytes.old bytes.new
         ledger.old ledger.new }

@@ -5,7 +5,8 @@ ghost use Rattle.second_judge.specs.Phases.{phase_after};
 use crate::limits;
 use crate::phase::{Next, Phase};
 
-// Where an entry may stand is asked in clauses, and not a ghost field here: a struct with one takes no `..self`.
+// Where an entry may stand is asked in clauses, and not a ghost field here: a struct with one takes no `..self`. The ticks are no
+// numbers of the phases: each is asked for some phases after the one that sets it, and those between would have to hand it on.
 #[derive(Clone, Copy)]
 pub struct Place {
     pub phase: Phase,

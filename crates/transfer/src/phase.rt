@@ -10,7 +10,7 @@ pub struct Byte {
 }
 
 // `since` is the phase's first tick, and in the handover its offset 0, open or carried. `some_handed`: a byte was handed over.
-// `end_mark`: the byte has the end mark.
+// `end_mark`: the byte has the end mark. It and the value are two numbers and no struct, as the table's clauses name each.
 // The order is for speed: the one-byte numbers come first, then `since` or `take`, so that each stands at the same byte in every phase.
 #[derive(Clone, Copy)]
 pub enum Phase {

@@ -1,5 +1,5 @@
 -- What a call leaves of a tray: one seat changed at most, and none where it is refused. Assumes nothing.
-use Rattle.std.specs.Prelude.{ℕ, ◌<◌, List, length, set, Result, Ok, Err, ◌≡◌, leb}
+use Rattle.std.specs.Prelude.{ℕ, ◌<◌, List, length, Result, Ok, Err, ◌≡◌, leb}
 use Rattle.std.specs.Result.{result_and}
 use Rattle.answer.specs.Basics.{differs}
 use Rattle.answer.specs.{Types.Refusal, Types.NoSuchSeat, Types.NotFortySeats, Numbers.refusal_number}
@@ -24,7 +24,7 @@ of_outside P size seat inside refused =
 module _ (tray : List Seat) (seat : ℕ) (call : Call) where
   -- What holds of a tray that an accepted call leaves, and of one that a refusal leaves, holds of what a call leaves.
   pub of_called : (P : Called → Type 0)
-      → ((new : Seat) → seat < length tray → Change (seat_at tray seat) call (Ok new) → P (leaves 0 (set tray seat new)))
+      → ((new : Seat) → seat < length tray → Change (seat_at tray seat) call (Ok new) → P (changed_at tray seat (Ok new)))
       → ((refusal : Refusal) → (refusal_number refusal ≡ 0 → ⊥) → P (leaves (refusal_number refusal) tray)) → P (called tray seat call)
   unfolding called
   of_called P accepted refused =
@@ -34,13 +34,6 @@ module _ (tray : List Seat) (seat : ℕ) (call : Call) where
       by_change : (r : Result Seat Refusal) → seat < length tray → Change (seat_at tray seat) call r → P (changed_at tray seat r)
       by_change (Ok new) inside c = accepted new inside c
       by_change (Err refusal) inside c = refused refusal (is_refused c)
-
-  -- Where a call is accepted, its seat is as the call makes it.
-  pub of_accepted : (P : Seat → Type 0) → ((new : Seat) → Change (seat_at tray seat) call (Ok new) → P new)
-      → (called tray seat call).answer ≡ 0 → P (seat_at (called tray seat call).tray seat)
-  of_accepted P h =
-      of_called (λ (c : Called). c.answer ≡ 0 → P (seat_at c.tray seat))
-      (λ new inside c e. subst⁻¹ P (get_or-set_same tray seat new vacant_seat inside) (h new c)) (λ refusal some e. absurd (some e))
 
 pub one_seat : OneSeatLaw
 one_seat tray seat call =
@@ -56,3 +49,11 @@ pub refusals_change_nothing : RefusalsLaw
 refusals_change_nothing tray seat call =
     of_called tray seat call (λ (c : Called). (c.answer ≡ 0 → ⊥) → c.tray ≡ tray) (λ new inside c h. absurd (h refl))
     (λ refusal some h. refl)
+
+-- Where a call is accepted, its seat is as the call makes it.
+pub of_accepted : (tray : List Seat) (seat : ℕ) (call : Call) (P : Seat → Type 0)
+    → ((new : Seat) → Change (seat_at tray seat) call (Ok new) → P new)
+    → (called tray seat call).answer ≡ 0 → P (seat_at (called tray seat call).tray seat)
+of_accepted tray seat call P h =
+    of_called tray seat call (λ (c : Called). c.answer ≡ 0 → P (seat_at c.tray seat))
+    (λ new inside c e. subst⁻¹ P (get_or-set_same tray seat new vacant_seat inside) (h new c)) (λ refusal some e. absurd (some e))

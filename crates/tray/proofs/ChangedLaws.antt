@@ -12,7 +12,7 @@ pub data Change (seat : Seat) : Call → Result Seat Refusal → Type 0 where
   posts : {passes : Bool} → in_use seat ≡ true → Change seat (Post passes) (becomes (posted passes))
   refuses : {call : Call} (refusal : Refusal) → (refusal_number refusal ≡ 0 → ⊥) → Change seat call (Err refusal)
 
-change_in : (seat : Seat) (used : Bool) → in_use seat ≡ used → (call : Call) → Change seat call (changed_in used call)
+change_in : (seat : Seat) (used : Bool) → in_use seat ≡ used → (call : Call) → Change seat call (changed_in used seat call)
 change_in seat false e Load = loads e
 change_in seat true e Load = refuses SeatInUse (omega arith)
 change_in seat true e Remove = removes e

@@ -1,5 +1,5 @@
 -- How many seats are in each state.
-use Rattle.std.specs.Prelude.{Bool, true, false, List, count_by}
+use Rattle.std.specs.Prelude.{ℕ, Bool, true, false, List, ◌++◌, codes, decimal, count_by}
 use Rattle.tray.specs.Types.{SeatState, Vacant, Unjudged, Passed, Failed, Seat, Counts}
 
 abbrev pub is_in : SeatState → Seat → Bool
@@ -20,3 +20,9 @@ counts_of tray =
       unjudged = count_by (is_in Unjudged) tray;
       vacant = count_by (is_in Vacant) tray;
     }
+
+-- What is printed of them, as `37 passed, 1 failed, 1 unjudged, 1 vacant`.
+abbrev pub counts_text : Counts → List ℕ
+counts_text c =
+    decimal c.passed ++ codes " passed, " ++ decimal c.failed ++ codes " failed, "
+    ++ decimal c.unjudged ++ codes " unjudged, " ++ decimal c.vacant ++ codes " vacant"

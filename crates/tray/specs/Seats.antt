@@ -23,15 +23,15 @@ posted true = Passed
 posted false = Failed
 
 -- What a call makes of a seat, by whether it is in use.
-abbrev pub changed_in : (used : Bool) → Call → Result Seat Refusal
+abbrev pub changed_in : (used : Bool) → Seat → Call → Result Seat Refusal
 -- "Load makes a vacant seat unjudged"; "15 loading a seat in use".
-changed_in false Load = becomes Unjudged
-changed_in true Load = Err SeatInUse
+changed_in false seat Load = becomes Unjudged
+changed_in true seat Load = Err SeatInUse
 -- "Remove makes a seat vacant, and post .. makes it passed or failed"; "14 posting to or removing from a vacant seat".
-changed_in true Remove = becomes Vacant
-changed_in true (Post passes) = becomes (posted passes)
-changed_in false Remove = Err VacantSeat
-changed_in false (Post passes) = Err VacantSeat
+changed_in true seat Remove = becomes Vacant
+changed_in true seat (Post passes) = becomes (posted passes)
+changed_in false seat Remove = Err VacantSeat
+changed_in false seat (Post passes) = Err VacantSeat
 
 unfoldable pub changed : Seat → Call → Result Seat Refusal
-changed seat call = changed_in (in_use seat) call
+changed seat call = changed_in (in_use seat) seat call

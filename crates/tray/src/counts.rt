@@ -1,8 +1,9 @@
 // How many seats of a tray are in each state.
-ghost use Rattle.std.specs.Prelude.{◌≡◌, count_by};
-ghost use Rattle.tray.specs.Counts.{is_in, counts_of};
+ghost use Rattle.std.specs.Prelude.{◌≡◌, Some, count_by};
+ghost use Rattle.tray.specs.Counts.{is_in, counts_of, counts_text};
 
 use crate::seat::{Seat, SeatState};
+use std::fmt;
 
 #[derive(Clone, Copy)]
 pub struct Counts {
@@ -10,6 +11,24 @@ pub struct Counts {
     pub failed: usize,
     pub unjudged: usize,
     pub vacant: usize,
+}
+
+// `37 passed, 1 failed, 1 unjudged, 1 vacant`
+impl fmt::Display for Counts {
+    ghost output = { λ counts. Some (counts_text counts) };
+
+    fn fmt<W: fmt::Write>(&self, f: &mut fmt::Formatter<W>) -> fmt::Result {
+        let Counts {
+            passed,
+            failed,
+            unjudged,
+            vacant,
+        } = *self;
+        write!(
+            f,
+            "{passed} passed, {failed} failed, {unjudged} unjudged, {vacant} vacant"
+        )
+    }
 }
 
 // Of all seats, however many there are.

@@ -1,10 +1,10 @@
 // The calls that change a tray, each answered by a line and, where it is accepted, the new state at its place.
 use crate::arguments::{EXPECTED, RECORDING};
 use crate::console::Console;
-use crate::lines::{print_done, print_failure, print_refusal};
+use crate::lines::{print_done, print_refusal};
 use crate::numbers::seat_number;
 use answer::{Answer, Refusal, Verdict};
-use files::{print_answer, print_file, read_source};
+use files::{print_answer, print_file};
 use std::io;
 use std::io::{ErrorKind, Input, Print};
 use std::rt::{Env, Files};
@@ -46,14 +46,11 @@ impl<R: Env + Files + Input + Print, E: Print> Asked<'_, R, E> {
 
     // As in judge_file, the room is longer than any recording, and a longer file is judged by its beginning as it is by the whole of it.
     fn post(&self, seats: [Seat; SEATS]) -> io::Result<()> {
-        let mut name = [0u8; 4096];
         let mut room = [0u8; 65536];
-        let Console { rt, errors } = *self.console;
-        let recording = read_source(rt, errors, RECORDING, &mut name, &mut room);
-        match recording.file {
-            Some(file) => self.post_recording(seats, file, recording.name),
-            None => print_failure(rt, "unreadable", recording.name),
-        }
+        self.console
+            .answer_source(RECORDING, &mut room, |file, recording| {
+                self.post_recording(seats, file, recording)
+            })
     }
 
     // The room for the expected bytes is longer than the judge's buffer: a file that fills it passes neither whole nor cut
@@ -64,14 +61,11 @@ impl<R: Env + Files + Input + Print, E: Print> Asked<'_, R, E> {
         file: &[u8],
         recording: &[u8],
     ) -> io::Result<()> {
-        let mut name = [0u8; 4096];
         let mut room = [0u8; 4096];
-        let Console { rt, errors } = *self.console;
-        let expected = read_source(rt, errors, EXPECTED, &mut name, &mut room);
-        match expected.file {
-            Some(bytes) => self.post_judged(seats, file, recording, bytes),
-            None => print_failure(rt, "unreadable", expected.name),
-        }
+        self.console
+            .answer_source(EXPECTED, &mut room, |expected, _| {
+                self.post_judged(seats, file, recording, expected)
+            })
     }
 
     fn post_judged(

@@ -1,4 +1,5 @@
-// What the calls on a tray read before they are answered. A call that is an error was not answered, or not all of the answer was printed.
+// The calls on a tray: `new`, `seal` and `show` are answered here, and those that change a tray in changes.rt. Here is also how both read
+// their files and write the new state. A call that is an error was not answered, or not all of the answer was printed.
 use crate::arguments::{PLACE, SEAT, STATE};
 use crate::changes::{Asked, Change};
 use crate::lines::{print_counts, print_failure, print_not_a_tray};
@@ -12,6 +13,7 @@ use std::io::{ErrorKind, Input, Print};
 use std::rt::{Env, Files};
 use tray::{SEATS, Seat, SeatState};
 
+// Values and no closures, since the state is read before it matters which call it is.
 #[derive(Clone, Copy)]
 pub enum Call {
     Change(Change),
@@ -44,11 +46,25 @@ impl<R: Env + Files + Input + Print, E: Print> Console<'_, R, E> {
     // The room is longer than a state file, and what is said of a longer file than the room is what is said of its beginning
     // (specs/LongFiles.antt).
     pub fn answer_state(&self, call: Call) -> io::Result<()> {
-        let mut name = [0u8; 4096];
         let mut room = [0u8; 4096];
-        let source = read_source(self.rt, self.errors, STATE, &mut name, &mut room);
+        self.answer_source(STATE, &mut room, |file, state| {
+            self.answer_file(call, file, state)
+        })
+    }
+
+    // Answers by the bytes and the name of the file that the argument of this place names, or that it could not be read.
+    pub fn answer_source<F: FnOnce(&[u8], &[u8]) -> io::Result<()>>(
+        &self,
+        place: usize,
+        room: &mut [u8],
+        answer: F,
+    ) -> io::Result<()>
+        requires { F.IsAlwaysCallable answer }
+    {
+        let mut name = [0u8; 4096];
+        let source = read_source(self.rt, self.errors, place, &mut name, room);
         match source.file {
-            Some(file) => self.answer_file(call, file, source.name),
+            Some(file) => answer(file, source.name),
             None => print_failure(self.rt, "unreadable", source.name),
         }
     }
@@ -85,6 +101,7 @@ impl<R: Env + Files + Input + Print, E: Print> Console<'_, R, E> {
     fn change_tray(&self, change: Change, seats: [Seat; SEATS], state: &[u8]) -> io::Result<()> {
         let mut room = [0u8; 4096];
         let seat = named_argument(self.rt, self.errors, SEAT, b"the seat", &mut room)?;
+        // Not answered. Which error it is nobody asks.
         if !is_number(seat) {
             return Err(ErrorKind::InvalidInput.into());
         }

@@ -27,7 +27,7 @@ pub fn print_refusal<P: Print>(
     print_file(to, state)
 }
 
-// `- FAILURE FILE`
+// `- FAILURE FILE`; not that of `files`, which begins as an answer does, with four
 pub fn print_failure<P: Print>(to: &P, failure: &str, file: &[u8]) -> io::Result<()> {
     print!(to; "- {failure}")?;
     print_file(to, file)
@@ -41,6 +41,5 @@ pub fn print_not_a_tray<P: Print>(to: &P, line: usize, state: &[u8]) -> io::Resu
 
 // `37 passed, 1 failed, 1 unjudged, 1 vacant`
 pub fn print_counts<P: Print>(to: &P, counts: Counts) -> io::Result<()> {
-    print!(to; "{} passed, {} failed, ", counts.passed, counts.failed)?;
-    print!(to; "{} unjudged, {} vacant\n", counts.unjudged, counts.vacant)
+    print!(to; "{counts}\n")
 }

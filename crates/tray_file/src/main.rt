@@ -82,6 +82,7 @@ fn answer_call<R: Env + Files + Input + Print, E: Print>(
         (b"post", 7) => console.answer_state(Call::Change(Change::Post)),
         (b"seal", 3) => console.answer_state(Call::Seal),
         (b"show", 3) => console.answer_state(Call::Show),
+        // Not answered. Which error it is nobody asks.
         _ => Err(ErrorKind::InvalidInput.into()),
     }
 }

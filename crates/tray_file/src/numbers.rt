@@ -11,7 +11,8 @@ pub fn is_number(text: &[u8]) -> bool
     !text.is_empty() && text.iter().all(|byte| byte.is_ascii_digit())
 }
 
-// The number of these digits, or 40 where it is above: so no length of it overflows.
+// The number of these digits, or 40 where it is above: so no length of it overflows. No error, since a seat above is for the crate tray to
+// refuse, and `or_forty` is what is promised.
 pub fn seat_number(digits: &[u8]) -> usize
     ensures { result ≡ or_forty (number_of digits.now) }
 {

@@ -59,12 +59,10 @@ fn state_told_by(byte: u8) -> SeatState
 fn same_until(file: &[u8], text: &[u8; TEXT_LENGTH]) -> usize
     ensures { SameUntil file.now text.now result }
 {
-    for (place, byte) in text.iter().enumerate() {
-        if file.len() <= place || file[place] != *byte {
-            return place;
-        }
-    }
-    TEXT_LENGTH
+    text.iter()
+        .zip(file)
+        .position(|(byte, other)| byte != other)
+        .unwrap_or(file.len().min(TEXT_LENGTH))
 }
 
 // The line that a place is in. The lines are counted from 1.

@@ -35,7 +35,7 @@ fn state_byte(seats: &[Seat; SEATS], place: usize) -> u8
     line[column]
 }
 
-// The line of one seat, as `07   passed`.
+// The line of one seat, as `07   passed`. By hand, since each of its bytes is promised, and those that `write!` writes only where it is Ok.
 pub fn seat_line(number: usize, seat: Seat) -> [u8; LINE_LENGTH]
     requires { number < 100 }
     ensures { result ≡ seat_line number seat }

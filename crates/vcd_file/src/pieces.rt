@@ -40,6 +40,7 @@ fn print_pieces<P: Print>(to: &P, file: &[u8]) -> Result<(), Stopped> {
     let mut offset: u32 = 0;
     loop {
         let count = vcd::part(file, offset, &mut text)?;
+        // as the crate vcd promises (`PiecesLaw`)
         if count == 0 {
             return Ok(());
         }

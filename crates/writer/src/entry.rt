@@ -7,7 +7,7 @@ ghost use Rattle.writer.specs.Written.{most_bytes, written_length, recording_of,
 
 use crate::card::Card;
 use crate::steps::StepWriter;
-use crate::{string, ticks};
+use crate::string;
 use answer::{Refusal, Refused};
 use recording::{Header, Step};
 
@@ -31,7 +31,8 @@ pub fn write(bytes: &[u8], destination: &mut [u8]) -> Result<u32, Refused>
     Ok(length as u32)
 }
 
-// How long the recording of so many bytes is.
+// How long the recording of so many bytes is. That they are few is a clause of four functions, and no fact of a type: three of them take
+// the count alone.
 fn written_length(bytes: usize) -> usize
     requires { bytes ≤ most_bytes }
     ensures { result ≡ written_length bytes }
@@ -45,7 +46,7 @@ fn put_recording(bytes: &[u8], destination: &mut [u8], card: Card)
     ensures { destination.new ≡ recording_of card bytes.now over destination.old }
 {
     let steps = string::step_count(bytes.len());
-    let total = ticks::total_ticks(card, bytes.len() as u32);
+    let total = card.total_ticks(bytes.len() as u32);
     let header = Header::of_steps(steps as u16, total);
     header.write(destination);
     StepWriter::new(destination, card).put_bytes(bytes);

@@ -21,6 +21,7 @@ fn sent(value: u8, let_go: u32, take: u32, hold: u32) -> Sent {
     }
 }
 
+// A match and no array, since each row has the offset where it wants it.
 fn sent_at(kind: u32, offset: u32) -> Sent
     requires { offset < 110 }
 {

@@ -29,7 +29,7 @@ use Begun::{Carried, NoBytes, NoSteps, S1, S1Srq, Waiting};
 struct Sample {
     title: &'static str,
     begun: Begun,
-    change: Change,
+    change: Option<Change>,
     number: u32,
     tick: Option<u32>,
 }
@@ -37,7 +37,6 @@ struct Sample {
 // What is done to it: a step gets another duration and other lines, or a further step is added.
 #[derive(Clone, Copy)]
 enum Change {
-    Nothing,
     Set(u32, u32, u8),
     Add(u32, u8),
 }
@@ -46,7 +45,7 @@ fn titled(title: &'static str, begun: Begun, number: u32, tick: Option<u32>) -> 
     Sample {
         title,
         begun,
-        change: Change::Nothing,
+        change: None,
         number,
         tick,
     }
@@ -55,19 +54,20 @@ fn titled(title: &'static str, begun: Begun, number: u32, tick: Option<u32>) -> 
 impl Sample {
     fn set(self, step: u32, duration: u32, lines: u8) -> Sample {
         Sample {
-            change: Change::Set(step, duration, lines),
+            change: Some(Change::Set(step, duration, lines)),
             ..self
         }
     }
 
     fn add(self, duration: u32, lines: u8) -> Sample {
         Sample {
-            change: Change::Add(duration, lines),
+            change: Some(Change::Add(duration, lines)),
             ..self
         }
     }
 }
 
+// A match and no array, since a constant can't call `titled`.
 fn sample_at(number: u32) -> Sample {
     match number {
         0 => titled("S1", S1, 20, Some(1910)),
@@ -109,12 +109,12 @@ impl Class for Samples {
         let sample = sample_at(number);
         put_begun(file, sample.begun);
         match sample.change {
-            Change::Nothing => {}
-            Change::Set(step, duration, lines) => {
+            None => {}
+            Some(Change::Set(step, duration, lines)) => {
                 draft::set_duration(file, step, duration);
                 draft::set_lines(file, step, lines);
             }
-            Change::Add(duration, lines) => draft::add(file, duration, lines),
+            Some(Change::Add(duration, lines)) => draft::add(file, duration, lines),
         }
         Case {
             title: Some(sample.title),

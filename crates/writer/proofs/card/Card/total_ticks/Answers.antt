@@ -1,7 +1,7 @@
 -- The formula is the code's, and no sum is too large.
 use Rattle.std.proofs.Common.{◌+◌, ◌-◌, sym, arith, rules}
 use Rattle.writer.proofs.TickLaws.{product_fits, ticks_none, ticks_some}
-use Rattle.writer.proofs.ticks.total_ticks.Goals as goal
+use Rattle.writer.proofs.card.Card.total_ticks.Goals as goal
 
 pub returns-then-count-eq0 : goal.returns-then-count-eq0
 returns-then-count-eq0 c =
@@ -9,17 +9,17 @@ returns-then-count-eq0 c =
 
 pub overflow_mul-others : goal.overflow_mul-others
 overflow_mul-others c =
-    let ticks = c.opening_ticks-opening.result + c.args.card.gap + c.value_ticks-value.result in
+    let ticks = c.opening_ticks-opening.result + c.args.self.gap + c.value_ticks-value.result in
     omega (arith, product_fits (c.args.count - 1) ticks (search rules) (search rules))
 
 pub overflow_add-result-2 : goal.overflow_add-result-2
 overflow_add-result-2 c =
-    let ticks = c.opening_ticks-opening.result + c.args.card.gap + c.value_ticks-value.result in
+    let ticks = c.opening_ticks-opening.result + c.args.self.gap + c.value_ticks-value.result in
     omega (arith, product_fits (c.args.count - 1) ticks (search rules) (search rules))
 
 pub overflow_add-result-4 : goal.overflow_add-result-4
 overflow_add-result-4 c =
-    let ticks = c.opening_ticks-opening.result + c.args.card.gap + c.value_ticks-value.result in
+    let ticks = c.opening_ticks-opening.result + c.args.self.gap + c.value_ticks-value.result in
     omega (arith, product_fits (c.args.count - 1) ticks (search rules) (search rules))
 
 pub returns : goal.returns
