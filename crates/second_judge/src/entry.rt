@@ -1,4 +1,5 @@
-// Which of the two entries is asked. What it is travels as this value; the rows that both share stand once.
+// Which of the two entries is asked. It travels as a value, so that the rows that both share stand once; and it is this crate's own, since
+// the second judge shares nothing with the first.
 
 #[derive(Clone, Copy)]
 pub enum Entry {

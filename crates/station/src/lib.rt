@@ -46,7 +46,7 @@ pub extern "C" fn station_judge(file: &[u8], bytes: &mut [u8], ledger: &mut [u32
     judge::judge(file, bytes, ledger).into()
 }
 
-// Judges one command transfer. What `judge_command` promises, of the answer that crosses.
+// Judges one command transfer. What `judge_command` promises, of the answer that crosses. Two entries, as include/station.h declares them.
 #[unsafe(no_mangle)]
 pub extern "C" fn station_judge_command(
     file: &[u8],

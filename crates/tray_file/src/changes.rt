@@ -10,6 +10,7 @@ use std::io::{ErrorKind, Input, Print};
 use std::rt::{Env, Files};
 use tray::{SEATS, Seat, SeatState};
 
+// Values and no closures, as `Call`.
 #[derive(Clone, Copy)]
 pub enum Change {
     Load,
