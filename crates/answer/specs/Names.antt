@@ -1,5 +1,5 @@
 -- The word that the programs print for each of the numbers in Numbers.
-use Rattle.std.specs.Prelude.{ℕ, List, [], ◌∷◌, ◌≡◌, eqb, if◌then◌else◌}
+use Rattle.std.specs.Prelude.{ℕ, ◌-◌, List, [], ◌∷◌, ◌++◌, length, replicate, ◌≡◌, eqb, if◌then◌else◌}
 use Prim.Native.String.{String}
 use Rattle.answer.specs.Text.{ascii}
 
@@ -63,3 +63,7 @@ OnlyCompleteIsNamedSo = (number : ℕ) → word_of number ≡ ascii "complete" �
 -- How many characters a name has room for where it crosses to C. A longer word than today's has room: what crosses stays as it is.
 abbrev pub name_room : ℕ
 name_room = 32
+
+-- A word in that room, with zeros after it.
+unfoldable pub in_room : (word : List ℕ) → List ℕ
+in_room word = word ++ replicate (name_room - length word) 0

@@ -8,7 +8,7 @@ mod names;
 mod refusal;
 mod verdict;
 
-pub use crate::names::name_of;
+pub use crate::names::{in_room, name_of};
 pub use crate::refusal::{Refusal, Refused};
 pub use crate::verdict::{Fault, Verdict};
 use std::fmt;

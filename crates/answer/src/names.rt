@@ -1,6 +1,6 @@
 // One word for each number of an answer, after document 01's tables and document 02's requests.
 ghost use Rattle.std.specs.Prelude.{◌<◌, length, ◌≡◌};
-ghost use Rattle.answer.specs.Names.{word_of, name_room};
+ghost use Rattle.answer.specs.Names.{word_of, name_room, in_room};
 
 // The word that the programs print for this number. No number but 20 has that of a pass. By number, since C
 // asks by one and an answer has one. Where the word crosses to C a zero has room after it.
@@ -52,4 +52,21 @@ pub fn name_of(number: u32) -> &'static str
         40 => "overrun",
         _ => "no-such-number",
     }
+}
+
+// A longer word than today's has room: what crosses to C stays as it is.
+const ROOM: usize = 32;
+
+// A word as it crosses to C: its characters, and then zeros, one at least.
+pub fn in_room(word: &str) -> [u8; ROOM]
+    requires { length word.now < name_room }
+    ensures { result ≡ in_room word.now }
+{
+    let bytes = word.as_bytes();
+    let mut characters = [0; ROOM];
+    // No `copy_from_slice`: the library for C calls nothing, as include/station.h says, and C's memcpy would copy a slice.
+    for (place, character) in characters.iter_mut().enumerate() {
+        *character = bytes.get(place).copied().unwrap_or(0);
+    }
+    characters
 }

@@ -12,7 +12,7 @@ mod source;
 
 pub use crate::answers::{print_answer, print_failure, print_file, print_name};
 pub use crate::arguments::{argument, named_argument};
-pub use crate::input::read_input;
+pub use crate::input::{Broken, read_input};
 pub use crate::paths::hide_controls;
 pub use crate::reasons::fail;
 pub use crate::saving::save;

@@ -39,7 +39,8 @@ pub fn read_source<'a, R: Env + Files + Input, E: Print>(
         }
         Err(FillError::NotPresent) => {
             let named = name_input(name);
-            told(errors, named, read_input(&mut rt.reader(), room))
+            let read = read_input(&mut rt.reader(), room).map_err(io::Error::from);
+            told(errors, named, read)
         }
         Err(FillError::TooLong) => {
             hide_controls(name);
@@ -68,7 +69,7 @@ fn read_file<'a, R: Env + Files>(
     ensures { IfOk result (λ read. length read.now ≤ length room.old) }
 {
     let mut file = open(rt, place, name)?;
-    read_input(&mut file, room)
+    Ok(read_input(&mut file, room)?)
 }
 
 // The source of this name and of what was read. Where that is an error, it is told.

@@ -40,27 +40,29 @@ phase_after before HandOver = ReadyToSend
 phase_after before OpenFromHere = Open
 phase_after before Finish = End
 
--- What a row may lead to, with an entry: to E only with (0,0) and after an end mark, and never by the finish; of the
--- verdicts only the entry's.
-abbrev pub Leads : Entry → Tick → Result Next Verdict → Type 0
-Leads entry tick (Ok Stay) = Unit
-Leads entry tick (Ok (Go phase)) =
-    Stands entry phase
-    × (phase ≡ End → (tick.lines.clock ≡ false) × (tick.lines.«data» ≡ false) × (tick.end_mark ≡ true))
-Leads entry tick (Ok HandOver) = Unit
-Leads entry tick (Ok OpenFromHere) = Unit
-Leads entry tick (Ok Finish) = ⊥
-Leads entry tick (Err verdict) = Gives (while_reading entry) verdict
+-- "(0,0)": CLK and DATA are released.
+abbrev pub NeitherPulled : Lines → Type 0
+NeitherPulled lines = (lines.clock ≡ false) × (lines.«data» ≡ false)
+
+-- What a row may lead to, with an entry: where the reading may stand, but never to E; of the verdicts only the entry's.
+abbrev pub Leads : Entry → Result Next Verdict → Type 0
+Leads entry (Ok Stay) = Unit
+Leads entry (Ok (Go phase)) = Stands entry phase × (phase ≡ End → ⊥)
+Leads entry (Ok HandOver) = Unit
+Leads entry (Ok OpenFromHere) = Unit
+Leads entry (Ok Finish) = ⊥
+Leads entry (Err verdict) = Gives (while_reading entry) verdict
 
 -- The same of a row of both entries.
-abbrev pub LeadsBoth : Tick → Result Next Verdict → Type 0
-LeadsBoth tick led = (entry : Entry) → Leads entry tick led
+abbrev pub LeadsBoth : Result Next Verdict → Type 0
+LeadsBoth led = (entry : Entry) → Leads entry led
 
--- When a tick is tried against the rows: a plain one with ATN released; one of a command recording before the finish, and
--- as one of a byte with no end mark.
-abbrev pub Tried : Entry → Tick → Type 0
-Tried Plain tick = tick.lines.attention ≡ false
-Tried Command tick = (tick.end_mark ≡ false) × (tick.phase ≡ End → ⊥)
+-- What C's row may lead to, the one row that leads to E, and so what the rows together may: to E only with (0,0) and after
+-- an end mark; otherwise what any row may.
+abbrev pub LeadsOrEnds : Entry → Tick → Result Next Verdict → Type 0
+LeadsOrEnds entry tick (Ok (Go phase)) =
+    Stands entry phase × (phase ≡ End → NeitherPulled tick.lines × (tick.end_mark ≡ true))
+LeadsOrEnds entry tick led = Leads entry led
 
 -- Where the reading goes on after a tick: where it may stand, and in E only with the lines at rest. Or a verdict.
 abbrev pub GoesOn : Entry → Tick → Result Next Verdict → Type 0

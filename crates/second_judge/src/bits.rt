@@ -9,7 +9,7 @@ use crate::{handover, limits};
 // Set-up: "CLK pulled for 1 to 200 ticks (H), DATA free". "A 201st is 34" is the limit on staying. Valid: "Its first tick
 // must show the DATA of the last set-up tick, otherwise 33." That is the DATA of the tick before.
 pub fn set_up(tick: Tick) -> Result<Next, Verdict>
-    ensures { LeadsBoth tick result }
+    ensures { LeadsBoth result }
 {
     if tick.lines.clock {
         Ok(Next::Stay)
@@ -25,7 +25,7 @@ pub fn set_up(tick: Tick) -> Result<Next, Verdict>
 // A choice: a 201st tick with CLK released and DATA changed is 33, its row standing before that of 34; a tick with CLK
 // pulled is no valid tick, so that DATA may change in it, and it may follow 200 valid ones.
 pub fn valid(tick: Tick) -> Result<Next, Verdict>
-    ensures { LeadsBoth tick result }
+    ensures { LeadsBoth result }
 {
     if !tick.lines.clock {
         if tick.is_steady() {

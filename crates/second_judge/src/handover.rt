@@ -10,7 +10,7 @@ use crate::tick::Tick;
 // tick before: with DATA pulled now, bit 8 was one where DATA is steady and zero where it is not.
 // A choice: a one that is released at offset 0 itself is "(1,0) at offset up to 100", open from offset 0.
 pub fn first(tick: Tick) -> Result<Next, Verdict>
-    ensures { LeadsBoth tick result }
+    ensures { LeadsBoth result }
 {
     match (tick.lines.clock, tick.lines.data) {
         (true, true) if tick.is_steady() => Ok(Next::Go(Phase::Carried)),
@@ -22,7 +22,7 @@ pub fn first(tick: Tick) -> Result<Next, Verdict>
 // Open: "CLK released while DATA has been open: 26. (1,0) stays. (1,1): the take; go to B."
 // A choice: offset 1,000 showing (1,1) is a take; 35 is for (1,0).
 pub fn open(tick: Tick) -> Result<Next, Verdict>
-    ensures { LeadsBoth tick result }
+    ensures { LeadsBoth result }
 {
     match (tick.lines.clock, tick.lines.data) {
         (false, _) => Err(Verdict::OutOfTurn),
@@ -35,7 +35,7 @@ pub fn open(tick: Tick) -> Result<Next, Verdict>
 // later 26. (0,1) at offset 101 or more: go to C; sooner 36." The 101 is the hold of 100 after a take at offset 1.
 // A choice: (0,0) is 26 at every offset, also where (0,1) would be 36; carried itself has no limit.
 pub fn carried(tick: Tick) -> Result<Next, Verdict>
-    ensures { LeadsBoth tick result }
+    ensures { LeadsBoth result }
 {
     match (tick.lines.clock, tick.lines.data) {
         (false, false) => Err(Verdict::OutOfTurn),

@@ -10,6 +10,7 @@ use crate::{attention, trying};
 // "A tick with ATN pulled gives 23 before anything else".
 // A choice: also at tick 0 and in E. A byte that such a tick would have handed over is not handed over.
 // To E, and on in E, a tick leads only with the lines at rest.
+#[tactic(auto, using(crate::proofs::Phases::goes_on))]
 pub fn next(entry: Entry, tick: Tick) -> Result<Next, Verdict>
     requires { Stands entry tick.phase }
     ensures { GoesOn entry tick result }

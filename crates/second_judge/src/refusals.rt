@@ -19,6 +19,8 @@ pub struct Refused {
 }
 
 impl From<Refusal> for Refused {
+    ghost from_gives = { λ refusal refused. (refused.refusal ≡ refusal) × (refused.step ≡ 0) };
+
     fn from(refusal: Refusal) -> Refused {
         Refused { refusal, step: 0 }
     }

@@ -1,5 +1,7 @@
 // Which rows a tick is tried against.
-ghost use Rattle.second_judge.specs.Phases.{GoesOn, Stands, Tried};
+ghost use Rattle.std.specs.Prelude.{◌≡◌, OnOk};
+ghost use Rattle.second_judge.specs.declared.phase.Phase.TheVariants.{End};
+ghost use Rattle.second_judge.specs.Phases.{LeadsOrEnds, NeitherPulled, Stands};
 
 use crate::entry::Entry;
 use crate::numbers::Verdict;
@@ -7,11 +9,12 @@ use crate::phase::{Next, Phase};
 use crate::tick::Tick;
 use crate::{bits, handover, rows};
 
-// To E a tick leads only with (0,0) and after an end mark, and on in E only with (0,0).
-#[tactic(auto, using(crate::proofs::Phases::goes_on, crate::proofs::Phases::goes_on_both))]
+// To E a tick leads only with (0,0) and after an end mark, never by the finish, and on in E only with (0,0).
+#[tactic(auto, using(crate::proofs::Phases::leads_or_ends, crate::proofs::Phases::leads_or_ends_both, crate::proofs::Phases::ends_both))]
 pub fn by_rows(entry: Entry, tick: Tick) -> Result<Next, Verdict>
-    requires { Stands entry tick.phase × Tried entry tick }
-    ensures { GoesOn entry tick result }
+    requires { Stands entry tick.phase }
+    ensures leads { LeadsOrEnds entry tick result }
+    ensures at_rest { tick.phase ≡ End → OnOk result (NeitherPulled tick.lines) }
 {
     match tick.phase {
         Phase::Start => rows::start(tick),

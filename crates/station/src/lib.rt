@@ -1,8 +1,8 @@
 // The station's entries for programs in C and Rust. Each hands the lent memory on and the answer back, and does nothing else.
 #![tactic(auto)]
 
-ghost use Rattle.std.specs.Prelude.{◌<◌, length, ◌≡◌};
-ghost use Rattle.answer.specs.Names.{word_of, name_room};
+ghost use Rattle.std.specs.Prelude.{◌≡◌};
+ghost use Rattle.answer.specs.Names.{word_of};
 ghost use Rattle.command.specs.{Classes.class_of, Classes.class_number, Words.class_word};
 ghost use Rattle.transfer.specs.Limits.{command_limits, standard_limits};
 ghost use Rattle.judge.specs.Judged as Judged;
@@ -75,25 +75,13 @@ pub struct StationWord {
     pub text: [u8; 32],
 }
 
-fn word_crossing(word: &str) -> StationWord
-    requires { length word.now < name_room }
-    ensures { Spells word.now result }
-{
-    let bytes = word.as_bytes();
-    let mut text = [0; 32];
-    // No `copy_from_slice`: the library calls nothing, as include/station.h says, and C's memcpy would copy a slice.
-    for (place, character) in text.iter_mut().enumerate() {
-        *character = bytes.get(place).copied().unwrap_or(0);
-    }
-    StationWord { text }
-}
-
 // The word that the programs print for this number.
 #[unsafe(no_mangle)]
 pub extern "C" fn station_name(number: u32) -> StationWord
     ensures { Spells (word_of number) result }
 {
-    word_crossing(answer::name_of(number))
+    let text = answer::in_room(answer::name_of(number));
+    StationWord { text }
 }
 
 // The number of a command byte's class.
@@ -109,5 +97,6 @@ pub extern "C" fn station_command_class(byte: u8) -> u32
 pub extern "C" fn station_command_name(byte: u8) -> StationWord
     ensures { Spells (class_word (class_of byte)) result }
 {
-    word_crossing(command::class_of(byte).word())
+    let text = answer::in_room(command::class_of(byte).word());
+    StationWord { text }
 }

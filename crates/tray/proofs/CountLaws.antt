@@ -14,7 +14,7 @@ count_more : (state : SeatState) (seat : Seat) (tray : List Seat)
     → count_by (is_in state) (seat ∷ tray) ≡ one_if (is_in state seat) + count_by (is_in state) tray
 count_more state = sum_by-cons (λ (seat : Seat). one_if (is_in state seat))
 
-abbrev total : Counts → ℕ
+abbrev pub total : Counts → ℕ
 total c = c.passed + c.failed + c.unjudged + c.vacant
 
 -- The counts of seats in use that have not passed.

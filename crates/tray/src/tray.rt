@@ -1,7 +1,8 @@
 // The calls that change a lent tray in place. Where one is refused, nothing has changed.
 // A tray is lent as a slice, and not as an array of SEATS: a list of another length is answered, by refusal 16.
 ghost use Rattle.std.specs.Prelude.{◌≡◌, OnErr};
-ghost use Rattle.tray.specs.{Types.Load, Types.Remove, Types.Post, Passing.passing, Tray.answer_of, Tray.leaves, Tray.called};
+ghost use Rattle.tray.specs.{Types.Load, Types.Remove, Types.Post, Passing.passing};
+ghost use Rattle.tray.specs.Tray.{answer_of, leaves, called, outside};
 
 use crate::passing::passes;
 use crate::seat::{Call, Seat};
@@ -48,12 +49,21 @@ pub fn change(tray: &mut [Seat], seat: usize, call: Call) -> Result<(), Refusal>
     ensures left { leaves (answer_of result) tray.new ≡ called tray.old seat call }
     ensures refused { OnErr result (tray.new ≡ tray.old) }
 {
-    if tray.len() != SEATS {
+    outside(tray.len(), seat)?;
+    tray[seat] = tray[seat].called(call)?;
+    Ok(())
+}
+
+// Why a call is refused whatever the seat holds.
+#[tactic(auto, unfolding(crate::specs::Tray::outside))]
+fn outside(seats: usize, seat: usize) -> Result<(), Refusal>
+    ensures { result ≡ outside seats seat }
+{
+    if seats != SEATS {
         return Err(Refusal::NotFortySeats);
     }
     if SEATS <= seat {
         return Err(Refusal::NoSuchSeat);
     }
-    tray[seat] = tray[seat].called(call)?;
     Ok(())
 }

@@ -55,8 +55,8 @@ impl<R: Env + Files + Input + Print, E: Print> Writing<'_, R, E> {
         let mut bytes = [0u8; 4096];
         match read_input(&mut self.rt.reader(), &mut bytes) {
             Ok(bytes) => self.write_bytes(answers, bytes)?,
-            Err(error) => {
-                fail(self.errors, b"standard input", error);
+            Err(broken) => {
+                fail(self.errors, b"standard input", broken.reason);
                 print_failure(answers, b"unreadable", b"-")?;
             }
         }

@@ -62,7 +62,9 @@ impl<'a> StepWriter<'a> {
         self.put_lines(0, 0, after);
     }
 
-    // The eight bits, least significant first.
+    // The eight bits, least significant first. Inline, as `put_value`: a call would read back, for each step, where it goes and how long it
+    // lasts.
+    #[inline(always)]
     fn put_bits(&mut self, value: u8)
         requires { Room self.old 16 }
         ensures { Put (bit_steps self.old.card 8 value) self.old self.new }
@@ -75,6 +77,7 @@ impl<'a> StepWriter<'a> {
     }
 
     // The bits, and the wait for the take.
+    #[inline(always)]
     fn put_value(&mut self, value: u8)
         requires { Room self.old 17 }
         ensures { Put (value_steps self.old.card value) self.old self.new }
