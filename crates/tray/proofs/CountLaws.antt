@@ -1,7 +1,8 @@
 -- What one seat more adds to the counts: each seat is counted once. Assumes nothing.
-use Rattle.std.specs.Prelude.{ℕ, ◌+◌, Bool, not, ◌||◌, List, [], ◌∷◌, length, ◌≡◌, count_by, if◌then◌else◌}
-use Rattle.std.proofs.lemmas.List.Sums.{sum_by-cons}
-use mathlib.Core.Path.{refl}
+use Rattle.std.specs.Prelude.{ℕ, ◌+◌, ◌≤◌, ◌<◌, Bool, true, false, not, ◌||◌, List, [], ◌∷◌, length, take, get_or, ◌≡◌, count_by, if◌then◌else◌}
+use Rattle.std.proofs.lemmas.List.Sums.{sum_by-cons, count_by_more_yes, count_by_more_no, count_by-le-length}
+use lib.ListN.{length-take}
+use mathlib.Core.Path.{refl, ap, ◌∙◌}
 use native.Mathlib.Omega.{arith}
 use Rattle.tray.specs.Types.{SeatState, Vacant, Unjudged, Passed, Failed, Seat, Counts}
 use Rattle.tray.specs.{Seats.is_used, Seats.in_use, Sealing.has_passed}
@@ -52,3 +53,38 @@ all_counted (seat ∷ tray) =
       count_more Unjudged seat tray,
       count_more Vacant seat tray,
     )
+
+-- One seat more in this state.
+abbrev pub with_state : Counts → SeatState → Counts
+with_state c state =
+    record {
+      passed = if is_in Passed (record { state = state }) then c.passed + 1 else c.passed;
+      failed = if is_in Failed (record { state = state }) then c.failed + 1 else c.failed;
+      unjudged = if is_in Unjudged (record { state = state }) then c.unjudged + 1 else c.unjudged;
+      vacant = if is_in Vacant (record { state = state }) then c.vacant + 1 else c.vacant;
+    }
+
+one_more : (p : Seat → Bool) (tray : List Seat) (n : ℕ) (d : Seat) → n < length tray → (b : Bool) → p (get_or tray n d) ≡ b
+    → count_by p (take (n + 1) tray) ≡ (if b then count_by p (take n tray) + 1 else count_by p (take n tray))
+one_more p tray n d h true is = count_by_more_yes p tray n d h is
+one_more p tray n d h false is = count_by_more_no p tray n d h is
+
+same_counts : (a b : Counts) → a.passed ≡ b.passed → a.failed ≡ b.failed → a.unjudged ≡ b.unjudged → a.vacant ≡ b.vacant → a ≡ b
+same_counts a b p f u v =
+    ap (λ (n : ℕ). record { passed = n; failed = a.failed; unjudged = a.unjudged; vacant = a.vacant }) p
+    ∙ ap (λ (n : ℕ). record { passed = b.passed; failed = n; unjudged = a.unjudged; vacant = a.vacant }) f
+    ∙ ap (λ (n : ℕ). record { passed = b.passed; failed = b.failed; unjudged = n; vacant = a.vacant }) u
+    ∙ ap (λ (n : ℕ). record { passed = b.passed; failed = b.failed; unjudged = b.unjudged; vacant = n }) v
+
+-- The counts of one place more.
+pub counted_on : (tray : List Seat) (n : ℕ) (d : Seat) → n < length tray → (state : SeatState)
+    → (get_or tray n d).state ≡ state → counts_of (take (n + 1) tray) ≡ with_state (counts_of (take n tray)) state
+counted_on tray n d h state is =
+    let found : (of : SeatState) → is_in of (get_or tray n d) ≡ is_in of (record { state = state }) =
+    λ of. ap (λ (s : SeatState). is_in of (record { state = s })) is in
+    same_counts _ _ (one_more _ tray n d h _ (found Passed)) (one_more _ tray n d h _ (found Failed))
+    (one_more _ tray n d h _ (found Unjudged)) (one_more _ tray n d h _ (found Vacant))
+
+-- None is above the places that were passed.
+pub count_at_most : (state : SeatState) (tray : List Seat) (n : ℕ) → count_by (is_in state) (take n tray) ≤ n
+count_at_most state tray n = omega (arith, count_by-le-length (is_in state) (take n tray), length-take n tray)

@@ -1,6 +1,6 @@
 // How many seats of a tray are in each state.
-ghost use Rattle.std.specs.Prelude.{◌≡◌, Some, count_by};
-ghost use Rattle.tray.specs.Counts.{is_in, counts_of, counts_text};
+ghost use Rattle.std.specs.Prelude.{◌≡◌, Some};
+ghost use Rattle.tray.specs.Counts.{counts_of, counts_text};
 
 use crate::seat::{Seat, SeatState};
 use std::fmt;
@@ -35,17 +35,19 @@ impl fmt::Display for Counts {
 pub fn count(tray: &[Seat]) -> Counts
     ensures { result ≡ counts_of tray.now }
 {
-    Counts {
-        passed: count_in(tray, SeatState::Passed),
-        failed: count_in(tray, SeatState::Failed),
-        unjudged: count_in(tray, SeatState::Unjudged),
-        vacant: count_in(tray, SeatState::Vacant),
+    let mut counts = Counts {
+        passed: 0,
+        failed: 0,
+        unjudged: 0,
+        vacant: 0,
+    };
+    for seat in tray {
+        match seat.state {
+            SeatState::Passed => counts.passed += 1,
+            SeatState::Failed => counts.failed += 1,
+            SeatState::Unjudged => counts.unjudged += 1,
+            SeatState::Vacant => counts.vacant += 1,
+        }
     }
-}
-
-// How many are in this state.
-fn count_in(tray: &[Seat], state: SeatState) -> usize
-    ensures { result ≡ count_by (is_in state) tray.now }
-{
-    tray.iter().filter(|seat| seat.state == state).count()
+    counts
 }
