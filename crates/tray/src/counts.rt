@@ -32,6 +32,7 @@ impl fmt::Display for Counts {
 }
 
 // Of all seats, however many there are.
+#[tactic(auto, using(crate::proofs::CountLaws::count_at_most))]
 pub fn count(tray: &[Seat]) -> Counts
     ensures { result ≡ counts_of tray.now }
 {

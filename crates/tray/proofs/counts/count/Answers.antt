@@ -1,50 +1,11 @@
--- One place more, and room for it.
-use Rattle.std.proofs.Common.{ℕ, rules, arith, ap, take, length, ◌≡◌, ◌∙◌, sym}
+-- One place more, and in the end all of them.
+use Rattle.std.proofs.Common.{ℕ, arith, ap, take, length, ◌≡◌, ◌∙◌, sym}
 use Rattle.std.proofs.Math.Seq.{take-length}
 use Rattle.tray.specs.Counts.{counts_of}
 use Rattle.tray.specs.Types.{Passed, Failed, Unjudged, Vacant, Counts}
-use Rattle.tray.proofs.CountLaws.{with_state, counted_on, count_at_most}
+use Rattle.tray.proofs.CountLaws.{with_state, counted_on}
 use Rattle.tray.proofs.counts.count.Goals as goal
 use Rattle.tray.proofs.counts.count.Goals.{in-Passed, in-Failed, in-Unjudged, in-Vacant}
-
-pub loop-seat-init : goal.loop-seat-init
-loop-seat-init c = search rules
-
-pub overflow_add-counts : goal.overflow_add-counts
-overflow_add-counts c =
-    omega (
-      arith,
-      ap (λ (k : Counts). k.passed) c.loop-seat.invariant,
-      count_at_most Passed c.args.tray.now c.loop-seat.seat-index,
-      c.loop-seat-test.true,
-    )
-
-pub overflow_add-counts-in-Failed : goal.overflow_add-counts-in-Failed
-overflow_add-counts-in-Failed c =
-    omega (
-      arith,
-      ap (λ (k : Counts). k.failed) c.loop-seat.invariant,
-      count_at_most Failed c.args.tray.now c.loop-seat.seat-index,
-      c.loop-seat-test.true,
-    )
-
-pub overflow_add-counts-in-Unjudged : goal.overflow_add-counts-in-Unjudged
-overflow_add-counts-in-Unjudged c =
-    omega (
-      arith,
-      ap (λ (k : Counts). k.unjudged) c.loop-seat.invariant,
-      count_at_most Unjudged c.args.tray.now c.loop-seat.seat-index,
-      c.loop-seat-test.true,
-    )
-
-pub overflow_add-counts-in-Vacant : goal.overflow_add-counts-in-Vacant
-overflow_add-counts-in-Vacant c =
-    omega (
-      arith,
-      ap (λ (k : Counts). k.vacant) c.loop-seat.invariant,
-      count_at_most Vacant c.args.tray.now c.loop-seat.seat-index,
-      c.loop-seat-test.true,
-    )
 
 pub loop-seat-preserved : goal.loop-seat-preserved
 loop-seat-preserved c =
